@@ -1,0 +1,1 @@
+// No code: the definitions of specs/ and the theorems of proofs/.
