@@ -1,3 +1,13 @@
 pub mod Sets
+pub mod Lists
+pub mod Records
+pub mod Orders
 pub mod Classes
+pub mod Intervals
 pub mod Shares
+pub mod Plans
+pub mod Layout
+pub mod Stands
+pub mod Line
+pub mod FreePlans
+pub mod Answers

@@ -1,0 +1,138 @@
+-- What comes back (document 01): numbers 0 to 12, places and values, and the sequence of checks of planning, judging, drawing and the pen.
+use mathlib.Core.Path.{_≡_}
+use mathlib.Core.Bool.{true}
+use mathlib.Core.Logic.{_≢_}
+use mathlib.Core.List.{List, _++_}
+use Prim.Native.Nat.{ℕ, zero, suc, _+_, _*_, _≤_, _<_}
+use lib.ListN.{length, drop}
+use Rattle.model.specs.Sets.{Doses}
+use Rattle.model.specs.Records.{read, refused}
+use Rattle.model.specs.Orders.{Order, readOrder}
+use Rattle.model.specs.Classes.{W, P, free, NextClass, Classes, setNumber}
+use Rattle.model.specs.Intervals.{settingOf, fansPresent}
+use Rattle.model.specs.Shares.{Valid}
+use Rattle.model.specs.Plans.{planOf, planRecords, recordsBytes, slotsRead}
+use Rattle.model.specs.Layout.{slotsOf, classesOf}
+use Rattle.model.specs.Stands.{Stands}
+use Rattle.model.specs.Line.{State, shut, Point, pointAt}
+
+-- number and place; "refusal 9 returns the first class as a number with bit i for dose i, its W and P"; "Fields not meant are 0"
+pub record Answer : Type 0 where
+  pub number : ℕ
+  pub place : ℕ
+  pub set : ℕ
+  pub grams : ℕ
+  pub time : ℕ
+
+abbrev pub refusal : ℕ → ℕ → Answer
+refusal number place = record { number = number; place = place; set = 0; grams = 0; time = 0 }
+
+-- "0 done"
+abbrev pub done : Answer
+done = refusal 0 0
+
+-- ---- the order: 2 to 8, then 9
+
+-- the first class: the next of all doses, with no fan reserved
+abbrev pub FirstClass : Order → Doses → Type 0
+FirstClass o A = NextClass (settingOf o) (fansPresent o) (λ k. true) A
+
+-- 9 for the set A
+abbrev pub tooFast : Order → Doses → Answer
+tooFast o A = record {
+  number = 9;
+  place = 0;
+  set = setNumber (settingOf o .doses) A;
+  grams = W (settingOf o) A;
+  time = P (settingOf o) (fansPresent o) A;
+}
+
+-- the order is refused: by its reading, or 9, "first class: W × top seconds above P × top grams"
+pub data Refuses (order : List ℕ) : Answer → Type 0 where
+  unread : (number place : ℕ) → readOrder order ≡ refused number place → Refuses order (refusal number place)
+  above : (o : Order) (A : Doses) → readOrder order ≡ read o → FirstClass o A
+      → P (settingOf o) (fansPresent o) A * o .topGrams < W (settingOf o) A * o .topSeconds → Refuses order (tooFast o A)
+
+-- the order is accepted
+pub record Accepts (order : List ℕ) (o : Order) : Type 0 where
+  pub reads : readOrder order ≡ read o
+  pub slow : (A : Doses) → FirstClass o A → W (settingOf o) A * o .topSeconds ≤ P (settingOf o) (fansPresent o) A * o .topGrams
+
+-- ---- planning
+
+-- "Planning also returns the classes and slots written"
+pub record Planned : Type 0 where
+  pub answer : Answer
+  pub classes : ℕ
+  pub slots : ℕ
+
+-- "plan buffer under 47,392 bytes (24 classes and 1,457 slots)"
+abbrev pub planRoom : ℕ
+planRoom = 47392
+
+-- the plan's bytes in front, and the rest as it was
+abbrev pub overwritten : List ℕ → List ℕ → List ℕ
+overwritten before plan = plan ++ drop (length plan) before
+
+-- valid shares of every class: x i k j is class i's for dose k in interval j
+abbrev pub ValidShares : Order → ℕ → (ℕ → Doses) → (ℕ → ℕ → ℕ → ℕ) → Type 0
+ValidShares o p C x = (i : ℕ) → i < p → Valid (settingOf o) (free (settingOf o) (fansPresent o) C i) (C i) (x i)
+
+-- the plan of an order by its classes and shares
+abbrev pub planBytes : Order → ℕ → (ℕ → Doses) → (ℕ → ℕ → ℕ → ℕ) → List ℕ
+planBytes o p C x = recordsBytes (planOf (classesOf o p C) (slotsOf o p C x))
+
+-- planning `order` into a buffer that held `before` answers a Planned and leaves the bytes of the last argument. "Planning checks 1, 2,
+-- then record by record 3, 4, 5 in that order, then 6, 7, 8, 9." "Which valid shares are used is left open."
+pub data Plans (order before : List ℕ) : Planned → List ℕ → Type 0 where
+  no-room : length before < planRoom → Plans order before (record { answer = refusal 1 0; classes = 0; slots = 0 }) before
+  refuses : planRoom ≤ length before → (a : Answer) → Refuses order a → Plans order before (record { answer = a; classes = 0; slots = 0 }) before
+  plans : planRoom ≤ length before → (o : Order) → Accepts order o → (p : ℕ) (C : ℕ → Doses) → Classes (settingOf o) (fansPresent o) p C
+      → (x : ℕ → ℕ → ℕ → ℕ) → ValidShares o p C x
+      → Plans order before (record { answer = done; classes = p; slots = length (slotsOf o p C x) }) (overwritten before (planBytes o p C x))
+
+-- ---- judging: "checks 2 to 9 in the same order, then 10"
+
+pub data Judges (order plan : List ℕ) : Answer → Type 0 where
+  refuses : (a : Answer) → Refuses order a → Judges order plan a
+  falls : (o : Order) → Accepts order o → (Stands o plan → ⊥) → Judges order plan (refusal 10 0)
+  stands : (o : Order) → Accepts order o → Stands o plan → Judges order plan done
+
+-- ---- drawing: "then 10, 11, 12"
+
+-- "Fields not meant are 0, and a state not meant is Shut."
+pub record Drawn : Type 0 where
+  pub answer : Answer
+  pub point : Point
+
+abbrev pub noPoint : Answer → Drawn
+noPoint a = record { answer = a; point = record { amount = 0; state = shut } }
+
+-- the last tick of a week
+abbrev pub week : ℕ
+week = 604800
+
+-- the point of dose d at tick t, in a plan that stands for o
+abbrev pub pointOf : Order → List ℕ → ℕ → ℕ → Drawn
+pointOf o plan d t = record { answer = done; point = pointAt o (slotsRead (planRecords plan)) d t }
+
+pub data Draws (order plan : List ℕ) (d t : ℕ) : Drawn → Type 0 where
+  refuses : (a : Answer) → Judges order plan a → a .number ≢ 0 → Draws order plan d t (noPoint a)
+  no-dose : (o : Order) → Accepts order o → Stands o plan → settingOf o .doses ≤ d → Draws order plan d t (noPoint (refusal 11 0))
+  too-late : (o : Order) → Accepts order o → Stands o plan → d < settingOf o .doses → week < t → Draws order plan d t (noPoint (refusal 12 0))
+  draws : (o : Order) → Accepts order o → Stands o plan → d < settingOf o .doses → t ≤ week → Draws order plan d t (pointOf o plan d t)
+
+-- ---- the pen: "it holds a dose and a tick, and its answer is the point at the new tick"
+
+pub record Pen : Type 0 where
+  pub dose : ℕ
+  pub tick : ℕ
+
+-- "moved on by one tick"; "For a pen, 12 comes of the pen's tick before it moves." "A refusal changes no byte and no pen"
+pub data Moves (order plan : List ℕ) (pen : Pen) : Drawn → Pen → Type 0 where
+  refuses : (a : Answer) → Judges order plan a → a .number ≢ 0 → Moves order plan pen (noPoint a) pen
+  no-dose : (o : Order) → Accepts order o → Stands o plan → settingOf o .doses ≤ pen .dose → Moves order plan pen (noPoint (refusal 11 0)) pen
+  at-end : (o : Order) → Accepts order o → Stands o plan → pen .dose < settingOf o .doses → week ≤ pen .tick
+      → Moves order plan pen (noPoint (refusal 12 0)) pen
+  moves : (o : Order) → Accepts order o → Stands o plan → pen .dose < settingOf o .doses → pen .tick < week
+      → Moves order plan pen (pointOf o plan (pen .dose) (pen .tick + 1)) (record { dose = pen .dose; tick = pen .tick + 1 })

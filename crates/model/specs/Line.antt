@@ -1,0 +1,83 @@
+-- The drawn line (document 01): units before a tick, amounts, states, and moments that are whole numbers of 1/q ticks.
+use mathlib.Core.Path.{_≡_}
+use mathlib.Core.Bool.{Bool, true, false, _&&_}
+use mathlib.Core.List.{List, [], _∷_}
+use Prim.Native.Nat.{ℕ, _*_, _-_, _/_, _≤_, _<_, min}
+use lib.Dec.{eqb, leb, ltb}
+use lib.ListN.{length, getD}
+use Rattle.model.specs.Sets.{on}
+use Rattle.model.specs.Records.{pick}
+use Rattle.model.specs.Orders.{Order, doseAt}
+use Rattle.model.specs.Lists.{total}
+use Rattle.model.specs.Plans.{Slot}
+use Rattle.model.specs.Stands.{starts, ends}
+
+-- "units of the dose's slots before t"
+unfoldable pub unitsBefore : List Slot → ℕ → ℕ → ℕ
+unitsBefore slots d t = total (λ s. on (eqb d (s .dose)) (min (ends s) (t * s .grams) - starts s)) slots
+
+-- the W and the P that the slots of dose d name: those of the first; its rate is W/P
+unfoldable pub gramsOf : List Slot → ℕ → ℕ
+gramsOf [] d = 0
+gramsOf (s ∷ slots) d = pick (eqb d (s .dose)) (s .grams) (gramsOf slots d)
+
+unfoldable pub timeOf : List Slot → ℕ → ℕ
+timeOf [] d = 0
+timeOf (s ∷ slots) d = pick (eqb d (s .dose)) (s .time) (timeOf slots d)
+
+-- "Exact amount at tick t: units of the dose's slots before t, divided by P. Drawn amount: its whole part, one division at the end."
+unfoldable pub drawn : List Slot → ℕ → ℕ → ℕ
+drawn slots d t = unitsBefore slots d t / timeOf slots d
+
+-- "one of four states"; "Dosing carries the fan number"
+pub data State : Type 0 where
+  finished : State
+  shut : State
+  idle : State
+  dosing : ℕ → State
+
+-- "Dosing if a slot covers the instant t (start at or before t, end after), else Idle"
+unfoldable pub fedAt : List Slot → ℕ → ℕ → State
+fedAt [] d t = idle
+fedAt (s ∷ slots) d t =
+    pick (eqb d (s .dose) && leb (starts s) (t * s .grams) && ltb (t * s .grams) (ends s)) (dosing (s .fan)) (fedAt slots d t)
+
+-- "Finished if t is at or past the deadline, else Shut before the release, else" as above
+unfoldable pub stateAt : Order → List Slot → ℕ → ℕ → State
+stateAt o slots d t = pick (leb (doseAt o d .deadline) t) finished (pick (ltb t (doseAt o d .release)) shut (fedAt slots d t))
+
+-- "A point is an amount together with one of four states"
+pub record Point : Type 0 where
+  pub amount : ℕ
+  pub state : State
+
+abbrev pub pointAt : Order → List Slot → ℕ → ℕ → Point
+pointAt o slots d t = record { amount = drawn slots d t; state = stateAt o slots d t }
+
+-- ---- "For demand 3 a moment is a whole number of 1/q ticks, any q"
+
+-- a slot "starts at or before the moment and ends after it": x/q against starts/W and ends/W, by exact products
+pub record Covers (q x : ℕ) (s : Slot) : Type 0 where
+  pub from : starts s * q ≤ x * s .grams
+  pub after : x * s .grams < ends s * q
+
+-- one of the slots
+pub record OneOf (slots : List Slot) (s : Slot) : Type 0 where
+  pub index : ℕ
+  pub listed : index < length slots
+  pub there : (d : Slot) → getD slots index d ≡ s
+
+-- "a dose has a fan": a slot of it covers the moment
+pub record HasFan (slots : List Slot) (q x d : ℕ) : Type 0 where
+  pub slot : Slot
+  pub one : OneOf slots slot
+  pub dose : slot .dose ≡ d
+  pub covers : Covers q x slot
+
+-- "a fan runs": likewise; "the rate is that slot's W/P", here at least w/p, by exact products
+pub record RunsAt (slots : List Slot) (q x f w p : ℕ) : Type 0 where
+  pub slot : Slot
+  pub one : OneOf slots slot
+  pub fan : slot .fan ≡ f
+  pub covers : Covers q x slot
+  pub rate : w * slot .time ≤ slot .grams * p

@@ -1,0 +1,23 @@
+-- Lists of slots and records: lists made of lists, totals, and what holds of all members or of each two.
+use mathlib.Core.List.{List, [], _∷_, _++_}
+use Prim.Native.Nat.{ℕ, zero, suc, _+_}
+
+-- f 0, then f 1, .. then f (n - 1)
+unfoldable pub gather : {A : Type 0} → ℕ → (ℕ → List A) → List A
+gather zero f = []
+gather (suc n) f = gather n f ++ f n
+
+-- what the members come to together
+unfoldable pub total : {A : Type 0} → (A → ℕ) → List A → ℕ
+total g [] = 0
+total g (a ∷ l) = g a + total g l
+
+-- P holds of every member
+pub data All {A : Type 0} (P : A → Type 0) : List A → Type 0 where
+  none : All P []
+  also : {a : A} {l : List A} → P a → All P l → All P (a ∷ l)
+
+-- R holds of every member and every later one
+pub data Pairs {A : Type 0} (R : A → A → Type 0) : List A → Type 0 where
+  lone : Pairs R []
+  then : {a : A} {l : List A} → All (R a) l → Pairs R l → Pairs R (a ∷ l)

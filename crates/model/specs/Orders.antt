@@ -1,0 +1,110 @@
+-- Orders (document 01, "Records" and refusals 2 to 8): from any bytes to fans, top rate and doses, or the refusal with its place.
+use mathlib.Core.Bool.{Bool, true, false, not, _&&_, _||_}
+use mathlib.Core.List.{List, [], _∷_, _++_}
+use Prim.Native.Nat.{ℕ, zero, suc, _+_, _%_}
+use lib.Dec.{eqb, leb}
+use lib.ListN.{length, getD}
+use Rattle.model.specs.Records.{pick, within, Reading, read, refused, andThen, fansParts, doseParts, blankAt, fieldOf, readAll}
+
+pub record Fans : Type 0 where
+  pub fans : ℕ
+  pub topGrams : ℕ
+  pub topSeconds : ℕ
+
+pub record Dose : Type 0 where
+  pub bay : ℕ
+  pub release : ℕ
+  pub deadline : ℕ
+  pub grams : ℕ
+
+-- "An order is exactly one F, anywhere among up to 24 D. Dose number = count of D records before it."
+pub record Order : Type 0 where
+  pub fans : ℕ
+  pub topGrams : ℕ
+  pub topSeconds : ℕ
+  pub doses : List Dose
+
+-- what stands for a dose past the last
+abbrev pub noDose : Dose
+noDose = record { bay = 0; release = 0; deadline = 0; grams = 0 }
+
+-- dose k of an order
+abbrev pub doseAt : Order → ℕ → Dose
+doseAt o k = getD (o .doses) k noDose
+
+-- ---- one record
+
+pub data Entry : Type 0 where
+  fansEntry : Fans → Entry
+  doseEntry : Dose → Entry
+
+abbrev pub fansOf : List ℕ → Fans
+fansOf r = record { fans = fieldOf fansParts r 1; topGrams = fieldOf fansParts r 2; topSeconds = fieldOf fansParts r 3 }
+
+abbrev pub doseOf : List ℕ → Dose
+doseOf r = record { bay = fieldOf doseParts r 1; release = fieldOf doseParts r 2; deadline = fieldOf doseParts r 3; grams = fieldOf doseParts r 4 }
+
+-- "number of fans, 1 to 8; top grams, top seconds, each 1 to 1,000,000"
+abbrev pub fansFit : Fans → Bool
+fansFit f = within 1 8 (f .fans) && within 1 1000000 (f .topGrams) && within 1 1000000 (f .topSeconds)
+
+-- "bay, 1 to 999; release, 0 to 604,799; deadline, release+1 to 604,800; grams, 1 to 1,000,000"
+abbrev pub doseFits : Dose → Bool
+doseFits d =
+    within 1 999 (d .bay) && leb (d .release) 604799 && within (d .release + 1) 604800 (d .deadline) && within 1 1000000 (d .grams)
+
+-- a record of known kind: 4 "a byte that must be zero isn't", then 5 "a field out of range"
+abbrev pub checked : Bool → Bool → Entry → ℕ → Reading Entry
+checked blank fits e i = pick blank (pick fits (read e) (refused 5 i)) (refused 4 i)
+
+-- record i from its bytes: 3 "kind in an order neither F nor D", then 4, then 5, each with the record's index
+unfoldable pub entryOf : List ℕ → ℕ → Reading Entry
+entryOf r i =
+    pick (eqb (getD r 0 0) 0x46) (checked (blankAt fansParts r 0) (fansFit (fansOf r)) (fansEntry (fansOf r)) i)
+    (pick (eqb (getD r 0 0) 0x44) (checked (blankAt doseParts r 0) (doseFits (doseOf r)) (doseEntry (doseOf r)) i) (refused 3 i))
+
+-- ---- all records
+
+unfoldable pub fansIn : List Entry → List Fans
+fansIn [] = []
+fansIn (fansEntry f ∷ es) = f ∷ fansIn es
+fansIn (doseEntry d ∷ es) = fansIn es
+
+unfoldable pub dosesIn : List Entry → List Dose
+dosesIn [] = []
+dosesIn (fansEntry f ∷ es) = dosesIn es
+dosesIn (doseEntry d ∷ es) = d ∷ dosesIn es
+
+-- a rest of so many seconds or more lies between the windows; with no rest they may touch
+abbrev pub apart : ℕ → Dose → Dose → Bool
+apart rest x y = leb (x .deadline + rest) (y .release) || leb (y .deadline + rest) (x .release)
+
+-- "two doses of one bay with overlapping windows (touching is allowed)"
+abbrev pub clash : Dose → Dose → Bool
+clash x y = eqb (x .bay) (y .bay) && not (apart 0 x y)
+
+unfoldable pub clashesAny : Dose → List Dose → Bool
+clashesAny d [] = false
+clashesAny d (e ∷ es) = clash d e || clashesAny d es
+
+-- the doses of the records from index i on, behind the earlier ones; or 8 with "the record index of the first D that overlaps an earlier one"
+unfoldable pub noClash : List Dose → ℕ → List Entry → Reading (List Dose)
+noClash earlier i [] = read earlier
+noClash earlier i (fansEntry f ∷ es) = noClash earlier (suc i) es
+noClash earlier i (doseEntry d ∷ es) = pick (clashesAny d earlier) (refused 8 i) (noClash (earlier ++ d ∷ []) (suc i) es)
+
+-- the order with the fans of an F record
+abbrev pub orderWith : List Fans → List Dose → Order
+orderWith [] ds = record { fans = 0; topGrams = 0; topSeconds = 0; doses = ds }
+orderWith (f ∷ fs) ds = record { fans = f .fans; topGrams = f .topGrams; topSeconds = f .topSeconds; doses = ds }
+
+-- 6 "F records not exactly one", 7 "more than 24 doses", 8
+unfoldable pub orderOf : List Entry → Reading Order
+orderOf es =
+    pick (eqb (length (fansIn es)) 1)
+    (pick (leb (length (dosesIn es)) 24) (andThen (noClash [] 0 es) (λ ds. read (orderWith (fansIn es) ds))) (refused 7 0))
+    (refused 6 0)
+
+-- 2 "order length no multiple of 32, or over 1,600", "then record by record 3, 4, 5 in that order, then 6, 7, 8"
+unfoldable pub readOrder : List ℕ → Reading Order
+readOrder bytes = pick (eqb (length bytes % 32) 0 && leb (length bytes) 1600) (andThen (readAll entryOf bytes) orderOf) (refused 2 0)

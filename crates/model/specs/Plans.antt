@@ -1,0 +1,82 @@
+-- The records of a plan (document 01, "Records"): C and S, read from bytes and written.
+use mathlib.Core.Bool.{Bool, true, false}
+use mathlib.Core.List.{List, [], _∷_, _++_, map}
+use Prim.Native.Nat.{ℕ, _%_}
+use lib.Dec.{eqb}
+use lib.ListN.{length, getD}
+use Rattle.model.specs.Records.{pick, Reading, read, refused, classParts, slotParts, blankAt, fieldOf, recordBytes, readAll}
+
+pub record Class : Type 0 where
+  pub number : ℕ
+  pub doses : ℕ
+  pub grams : ℕ
+  pub time : ℕ
+
+-- a slot's W and P are its grams and its time: the rate is the one divided by the other
+pub record Slot : Type 0 where
+  pub fan : ℕ
+  pub dose : ℕ
+  pub startTick : ℕ
+  pub startPart : ℕ
+  pub endTick : ℕ
+  pub endPart : ℕ
+  pub grams : ℕ
+  pub time : ℕ
+  pub class : ℕ
+
+pub data PlanRecord : Type 0 where
+  classRecord : Class → PlanRecord
+  slotRecord : Slot → PlanRecord
+
+-- ---- reading
+
+abbrev pub classOf : List ℕ → Class
+classOf r = record { number = fieldOf classParts r 1; doses = fieldOf classParts r 2; grams = fieldOf classParts r 3; time = fieldOf classParts r 4 }
+
+abbrev pub slotOf : List ℕ → Slot
+slotOf r = record {
+  fan = fieldOf slotParts r 1;
+  dose = fieldOf slotParts r 2;
+  startTick = fieldOf slotParts r 3;
+  startPart = fieldOf slotParts r 4;
+  endTick = fieldOf slotParts r 5;
+  endPart = fieldOf slotParts r 6;
+  grams = fieldOf slotParts r 7;
+  time = fieldOf slotParts r 8;
+  class = fieldOf slotParts r 9;
+}
+
+-- a record that is neither C nor S, or has a byte that must be zero and isn't: "plan bytes don't stand", 10
+unfoldable pub planRecordOf : List ℕ → ℕ → Reading PlanRecord
+planRecordOf r i =
+    pick (eqb (getD r 0 0) 0x43) (pick (blankAt classParts r 0) (read (classRecord (classOf r))) (refused 10 0))
+    (pick (eqb (getD r 0 0) 0x53) (pick (blankAt slotParts r 0) (read (slotRecord (slotOf r))) (refused 10 0)) (refused 10 0))
+
+-- all records of plan bytes
+unfoldable pub planRecords : List ℕ → Reading (List PlanRecord)
+planRecords bytes = pick (eqb (length bytes % 32) 0) (readAll planRecordOf bytes) (refused 10 0)
+
+unfoldable pub slotsIn : List PlanRecord → List Slot
+slotsIn [] = []
+slotsIn (classRecord c ∷ rs) = slotsIn rs
+slotsIn (slotRecord s ∷ rs) = s ∷ slotsIn rs
+
+-- the slots of plan bytes
+abbrev pub slotsRead : Reading (List PlanRecord) → List Slot
+slotsRead (read rs) = slotsIn rs
+slotsRead (refused number place) = []
+
+-- ---- writing
+
+unfoldable pub planRecordBytes : PlanRecord → List ℕ
+planRecordBytes (classRecord c) = recordBytes classParts (0x43 ∷ c .number ∷ c .doses ∷ c .grams ∷ c .time ∷ [])
+planRecordBytes (slotRecord s) =
+    recordBytes slotParts (0x53 ∷ s .fan ∷ s .dose ∷ s .startTick ∷ s .startPart ∷ s .endTick ∷ s .endPart ∷ s .grams ∷ s .time ∷ s .class ∷ [])
+
+unfoldable pub recordsBytes : List PlanRecord → List ℕ
+recordsBytes [] = []
+recordsBytes (r ∷ rs) = planRecordBytes r ++ recordsBytes rs
+
+-- "Records: classes by number, then slots"
+abbrev pub planOf : List Class → List Slot → List PlanRecord
+planOf classes slots = map classRecord classes ++ map slotRecord slots
