@@ -1,2 +1,14 @@
+pub mod Sums
+pub mod Sets
+pub mod Fractions
+pub mod FanTime
+pub mod NextClass
+pub mod Chains
+pub mod Rounds
+pub mod Sequence
+pub mod Raise
+pub mod Shares
+pub mod Cells
+pub mod Moments
 pub mod Orders
 pub mod Intervals

@@ -1,10 +1,104 @@
--- What is known of an order that was read. Assumes nothing.
-use mathlib.Core.Path.{_≡_}
-use mathlib.Core.List.{List}
-use Prim.Native.Nat.{ℕ, _≤_, _<_}
-use lib.ListN.{length}
-use Rattle.model.specs.Records.{read}
-use Rattle.model.specs.Orders.{Order, doseAt, readOrder}
+-- What is known of an order that was read: every field is in its range. Assumes nothing.
+use mathlib.Core.Path.{_≡_, refl, sym, ap, _∙_}
+use mathlib.Core.Bool.{Bool, true, false, _&&_}
+use mathlib.Core.List.{List, [], _∷_, _++_, append-assoc, append-nil}
+use Prim.Native.Nat.{ℕ, zero, suc, _+_, _/_, _%_, _≤_, _<_}
+use native.Mathlib.Nat.{le-of-suc-le-suc}
+use native.Mathlib.Omega.{arith}
+use lib.Dec.{T, eqb, leb, leb→le, eqb→eq}
+use lib.ListN.{length, getD}
+use Rattle.model.specs.Lists.{All, none, also}
+use Rattle.model.specs.Records.{pick, within, Reading, read, refused, andThen, fansParts, doseParts, blankAt, recordAt, readFrom, readAll}
+use Rattle.model.specs.Orders.{Fans, Dose, Order, noDose, doseAt, Entry, fansEntry, doseEntry, fansOf, doseOf, fansFit, doseFits, checked, entryOf, fansIn, dosesIn, clashesAny, noClash, orderWith, orderOf, readOrder}
+use Rattle.model.proofs.Sets.{and-left, and-right}
+
+-- ---- a reading that did not refuse
+
+module _ {A : Type 0} where
+  no-refusal : (number place : ℕ) (a : A) → _≡_ {A = Reading A} (refused number place) (read a) → ⊥
+  no-refusal number place a e = let z : _≡_ {A = ℕ} 0 1 = cc in omega arith
+
+  -- a test in front held
+  pub passed : (b : Bool) (x : Reading A) (number place : ℕ) (a : A) → pick b x (refused number place) ≡ read a → T b × (x ≡ read a)
+  passed true x number place a e = (tt, e)
+  passed false x number place a e = absurd (no-refusal number place a e)
+
+  -- and so did the check before
+  pub went-on : {B : Type 0} (x : Reading B) (f : B → Reading A) (a : A) → andThen x f ≡ read a → (b : B) × (x ≡ read b) × (f b ≡ read a)
+  went-on (read b) f a e = (b, refl, e)
+  went-on (refused number place) f a e = absurd (no-refusal number place a e)
+
+-- what holds of each record that is read holds of all
+pub all-read : {A : Type 0} (P : A → Type 0) (each : List ℕ → ℕ → Reading A) → ((r : List ℕ) (i : ℕ) (a : A) → each r i ≡ read a → P a)
+    → (bytes : List ℕ) (i n : ℕ) (l : List A) → readFrom each bytes i n ≡ read l → All P l
+unfolding readFrom
+all-read P each h bytes i zero l e = rw (same-read e) none
+  where
+    same-read : read [] ≡ read l → l ≡ []
+    same-read q = cc
+all-read P each h bytes i (suc n) l e =
+    let r = went-on (each (recordAt bytes i) i) _ l e in
+    let s = went-on (readFrom each bytes (suc i) n) _ l (r .2) in
+    let tail = all-read P each h bytes (suc i) n (s .0) (s .1) in
+    rw (same-read (r .0) (s .0) (s .2)) (also (h (recordAt bytes i) i (r .0) (r .1)) tail)
+  where
+    same-read : (a : _) (rest : _) → read (a ∷ rest) ≡ read l → l ≡ a ∷ rest
+    same-read a rest q = cc
+
+-- ---- one record
+
+-- the fields of a record of an order are in their ranges
+unfoldable pub EntryFits : Entry → Type 0
+EntryFits (fansEntry f) = T (fansFit f)
+EntryFits (doseEntry d) = T (doseFits d)
+
+entry-fits : (r : List ℕ) (i : ℕ) (e : Entry) → entryOf r i ≡ read e → EntryFits e
+unfolding entryOf EntryFits
+entry-fits r i e q = go (eqb (getD r 0 0) 0x46) q
+  where
+    same : (a b : Entry) → read a ≡ read b → a ≡ b
+    same a b z = cc
+
+    other : (b : Bool) → pick b (checked (blankAt doseParts r 0) (doseFits (doseOf r)) (doseEntry (doseOf r)) i) (refused 3 i) ≡ read e → EntryFits e
+    other b z =
+        let x = passed b _ 3 i e z in
+        let y = passed (blankAt doseParts r 0) _ 4 i e (x .1) in
+        let w = passed (doseFits (doseOf r)) _ 5 i e (y .1) in
+        rw (← same (doseEntry (doseOf r)) e (w .1)) (w .0)
+
+    go : (b : Bool) → pick b (checked (blankAt fansParts r 0) (fansFit (fansOf r)) (fansEntry (fansOf r)) i)
+        (pick (eqb (getD r 0 0) 0x44) (checked (blankAt doseParts r 0) (doseFits (doseOf r)) (doseEntry (doseOf r)) i) (refused 3 i)) ≡ read e → EntryFits e
+    go true z =
+        let y = passed (blankAt fansParts r 0) _ 4 i e z in
+        let w = passed (fansFit (fansOf r)) _ 5 i e (y .1) in
+        rw (← same (fansEntry (fansOf r)) e (w .1)) (w .0)
+    go false z = other (eqb (getD r 0 0) 0x44) z
+
+-- ---- all records
+
+fans-fit : (es : List Entry) → All EntryFits es → All (λ f. T (fansFit f)) (fansIn es)
+unfolding fansIn EntryFits
+fans-fit [] none = none
+fans-fit (fansEntry f ∷ es) (also p a) = also p (fans-fit es a)
+fans-fit (doseEntry d ∷ es) (also p a) = fans-fit es a
+
+doses-fit : (es : List Entry) → All EntryFits es → All (λ d. T (doseFits d)) (dosesIn es)
+unfolding dosesIn EntryFits
+doses-fit [] none = none
+doses-fit (fansEntry f ∷ es) (also p a) = doses-fit es a
+doses-fit (doseEntry d ∷ es) (also p a) = also p (doses-fit es a)
+
+-- the doses that do not clash are all doses
+doses-read : (earlier : List Dose) (i : ℕ) (es : List Entry) (ds : List Dose) → noClash earlier i es ≡ read ds → ds ≡ earlier ++ dosesIn es
+unfolding noClash dosesIn
+doses-read earlier i [] ds e = let same : ds ≡ earlier = cc in same ∙ sym (append-nil earlier)
+doses-read earlier i (fansEntry f ∷ es) ds e = doses-read earlier (suc i) es ds e
+doses-read earlier i (doseEntry d ∷ es) ds e =
+    doses-read (earlier ++ d ∷ []) (suc i) es ds (free (clashesAny d earlier) e) ∙ append-assoc earlier (d ∷ []) (dosesIn es)
+  where
+    free : (b : Bool) {x : Reading (List Dose)} → pick b (refused 8 i) x ≡ read ds → x ≡ read ds
+    free true q = absurd (no-refusal 8 i ds q)
+    free false q = q
 
 -- every field of the order is in its range
 pub record Fit (o : Order) : Type 0 where
@@ -18,5 +112,64 @@ pub record Fit (o : Order) : Type 0 where
   pub some-grams : (k : ℕ) → k < length (o .doses) → 1 ≤ doseAt o k .grams
   pub light : (k : ℕ) → k < length (o .doses) → doseAt o k .grams ≤ 1000000
 
+-- what holds of all doses holds of dose k
+at-dose : (P : Dose → Type 0) (ds : List Dose) → All P ds → (k : ℕ) → k < length ds → P (getD ds k noDose)
+at-dose P [] none k h = absurd (omega arith)
+at-dose P (d ∷ ds) (also p a) zero h = p
+at-dose P (d ∷ ds) (also p a) (suc k) h = at-dose P ds a k (le-of-suc-le-suc h)
+
+-- lo to hi, as an order
+pub in-range : (lo hi v : ℕ) → T (within lo hi v) → (lo ≤ v) × (v ≤ hi)
+in-range lo hi v t = (leb→le lo v (and-left (leb lo v) (leb v hi) t), leb→le v hi (and-right (leb lo v) (leb v hi) t))
+
+-- the parts of a test of four parts
+four : (a b c d : Bool) → T (a && b && c && d) → T a × T b × T c × T d
+four true true true true t = (tt, tt, tt, tt)
+
+three : (a b c : Bool) → T (a && b && c) → T a × T b × T c
+three true true true t = (tt, tt, tt)
+
+dose-parts : (d : Dose) → T (doseFits d) → (d .release < d .deadline) × (d .deadline ≤ 604800) × (1 ≤ d .grams) × (d .grams ≤ 1000000)
+dose-parts d t =
+    let r = four (within 1 999 (d .bay)) (leb (d .release) 604799) (within (d .release + 1) 604800 (d .deadline)) (within 1 1000000 (d .grams)) t in
+    let window = in-range (d .release + 1) 604800 (d .deadline) (r .2) in
+    let grams = in-range 1 1000000 (d .grams) (r .3) in
+    (omega (arith, window .0), window .1, grams .0, grams .1)
+
+order-fits : (fs : List Fans) (ds : List Dose) → length fs ≡ 1 → All (λ f. T (fansFit f)) fs → length ds ≤ 24 → All (λ d. T (doseFits d)) ds
+    → Fit (orderWith fs ds)
+order-fits [] ds one af few ad = absurd (omega arith)
+order-fits (f ∷ fs) ds one (also p af) few ad =
+    let r = three (within 1 8 (f .fans)) (within 1 1000000 (f .topGrams)) (within 1 1000000 (f .topSeconds)) p in
+    let fan = in-range 1 8 (f .fans) (r .0) in
+    record {
+      fans-least = fan .0;
+      fans-most = fan .1;
+      top-grams = in-range 1 1000000 (f .topGrams) (r .1) .0;
+      top-seconds = in-range 1 1000000 (f .topSeconds) (r .2) .0;
+      few = few;
+      window = λ k l. dose-parts (getD ds k noDose) (at-dose (λ d. T (doseFits d)) ds ad k l) .0;
+      week = λ k l. dose-parts (getD ds k noDose) (at-dose (λ d. T (doseFits d)) ds ad k l) .1;
+      some-grams = λ k l. dose-parts (getD ds k noDose) (at-dose (λ d. T (doseFits d)) ds ad k l) .2;
+      light = λ k l. dose-parts (getD ds k noDose) (at-dose (λ d. T (doseFits d)) ds ad k l) .3;
+    }
+
+entries-fit : (es : List Entry) (o : Order) → All EntryFits es → orderOf es ≡ read o → Fit o
+unfolding orderOf
+entries-fit es o all e =
+    let c = passed (eqb (length (fansIn es)) 1) _ 6 0 o e in
+    let d = passed (leb (length (dosesIn es)) 24) _ 7 0 o (c .1) in
+    let f = went-on (noClash [] 0 es) _ o (d .1) in
+    rw (same (f .0) (doses-read [] 0 es (f .0) (f .1)) (f .2))
+    (order-fits (fansIn es) (dosesIn es) (eqb→eq _ _ (c .0)) (fans-fit es all) (leb→le _ _ (d .0)) (doses-fit es all))
+  where
+    same : (ds : List Dose) → ds ≡ dosesIn es → read (orderWith (fansIn es) ds) ≡ read o → o ≡ orderWith (fansIn es) (dosesIn es)
+    same ds g q = cc
+
+-- an order that was read fits
 pub read-fits : (bytes : List ℕ) (o : Order) → readOrder bytes ≡ read o → Fit o
-read-fits bytes o e = ?
+unfolding readOrder
+read-fits bytes o e =
+    let a = passed (eqb (length bytes % 32) 0 && leb (length bytes) 1600) _ 2 0 o e in
+    let b = went-on (readAll entryOf bytes) orderOf o (a .1) in
+    entries-fit (b .0) o (all-read EntryFits entryOf entry-fits bytes 0 (length bytes / 32) (b .0) (b .1)) (b .2)
