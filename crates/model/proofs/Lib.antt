@@ -10,5 +10,11 @@ pub mod Raise
 pub mod Shares
 pub mod Cells
 pub mod Moments
+pub mod Amounts
+pub mod Waiting
+pub mod Certificate
+pub mod FreeBound
+pub mod OwnPlan
+pub mod Refusal
 pub mod Orders
 pub mod Intervals

@@ -6,7 +6,7 @@ use native.Mathlib.Omega.{arith}
 use borrow.Author.Tests.{eq-eqb, ne-eqb}
 use lib.Dec.{T, eqb, leb, leb→le, le→leb}
 use Rattle.model.specs.Sets.{Doses, Sub, on, sum, weight}
-use Rattle.model.specs.Classes.{P, Setting, openFans}
+use Rattle.model.specs.Classes.{P, Row, Setting, openFans}
 use Rattle.model.proofs.Sums.{one-term, sum-congr, sum-le, sum-scale, sum-tight}
 use Rattle.model.proofs.Sets.{Apart, _∪_, and-both, and-left, and-right, size, weight-and, weight-congr, weight-le, weight-mono, weight-scale, weight-swap, weight-swap₂, weight-tight, weight-union}
 use Rattle.model.proofs.Cells.{cells-from, cover, inject, join, lengths}
@@ -37,7 +37,7 @@ pub record House (S : Setting) : Type 0 where
   pub present : ℕ → ℕ → Bool
 
 -- the fans that are there in interval j
-abbrev pub crew : {S : Setting} → House S → ℕ → ℕ
+abbrev pub crew : {S : Setting} → House S → Row
 crew G j = size (G .fans) (λ f. G .present f j)
 
 -- the cell x lies in interval j, at Q cells to the tick
@@ -195,4 +195,3 @@ module _ (S : Setting) (G : House S) (Z : Pieces) (h : Runs S G Z) where
       → (j x : ℕ) → j < J → InInterval Q τ j x → running Z U x ≡ openFans S (crew G) U j
   unfolding P
   time-full U = time-tight U (openFans S (crew G) U) (crowd U)
-

@@ -5,18 +5,34 @@ use mathlib.Core.Path.{_≡_, fun-ext, refl}
 use Prim.Native.Nat.{_*_, _+_, _<_, _≤_, ℕ}
 use native.Mathlib.Nat.{eq-or-lt-of-le, eq-zero-or-pos}
 use native.Mathlib.Omega.{arith}
-use lib.Dec.{T-not}
+use borrow.Author.Tests.{eq-eqb}
+use lib.Dec.{T-not, leb→le, le→leb, eqb→eq}
 use Rattle.model.specs.Sets.{Doses, Nonempty, Sub}
 use Rattle.model.specs.Classes.{NextClass, P, Row, Setting, W}
-use Rattle.model.proofs.Sets.{Alike, Apart, _∖_, _∪_, alike, alike-back, alike-sub, and-left, and-right, or-elim, or-left, or-right, weight-alike, weight-pos, weight-union}
+use Rattle.model.proofs.Sets.{Alike, Apart, _∖_, _∪_, alike, alike-back, alike-sub, and-left, and-right, or-elim, or-left, or-right, weight-alike, weight-union}
 use Rattle.model.proofs.FanTime.{P-alike, P-union, left}
 
 module _ (S : Setting) where
   open Setting S using (doses as n, grams)
 
-  -- no set of what is left has a greater rate, with or without weight
-  pub greatest-any : (row : Row) (rest A : Doses) → NextClass S row rest A → (B : Doses) → Sub n B rest → W S B * P S row A ≤ W S A * P S row B
-  greatest-any row rest A a B h = elim (eq-zero-or-pos (W S B)) [ inl e ↦ rw e (omega arith) | inr p ↦ a .greatest B h (weight-pos n grams B p) ]
+  module _ (row : Row) (rest A : Doses) where
+    -- no set of remaining doses is denser than the next class
+    pub no-denser : NextClass S row rest A → (B : Doses) → Sub n B rest → Nonempty n B → W S B * P S row A ≤ W S A * P S row B
+    no-denser a B h w = leb→le (W S B * P S row A) (W S A * P S row B) (a .greatest B h w)
+
+    -- and one that is as dense lies in it
+    pub as-dense : NextClass S row rest A → (B : Doses) → Sub n B rest → Nonempty n B → W S B * P S row A ≡ W S A * P S row B → Sub n B A
+    as-dense a B h w e = a .largest B h w (rw (eq-eqb (W S B * P S row A) (W S A * P S row B) e) tt)
+
+    -- these make the next class
+    pub next-class : Sub n A rest → Nonempty n A → ((B : Doses) → Sub n B rest → Nonempty n B → W S B * P S row A ≤ W S A * P S row B)
+        → ((B : Doses) → Sub n B rest → Nonempty n B → W S B * P S row A ≡ W S A * P S row B → Sub n B A) → NextClass S row rest A
+    next-class sub some dense most = record {
+      within = sub;
+      some = some;
+      greatest = λ B h w. le→leb (W S B * P S row A) (W S A * P S row B) (dense B h w);
+      largest = λ B h w t. most B h w (eqb→eq (W S B * P S row A) (W S A * P S row B) t);
+    }
 
   -- one next class for one row of fans and one set of remaining doses
   pub next-alike : (row row′ : Row) (rest rest′ A B : Doses) → ((j : ℕ) → row j ≡ row′ j) → Alike n rest rest′
@@ -25,7 +41,7 @@ module _ (S : Setting) where
       let b′ : NextClass S row rest′ B = rw (← fun-ext e) at b in
       let to : Sub n A rest′ = λ k l t. alike-sub n rest rest′ h k l (a .within k l t) in
       let back : Sub n B rest = λ k l t. alike-back n rest rest′ h k l (b′ .within k l t) in
-      b′ .largest A to (a .some) (omega (arith, a .greatest B back (b′ .some), b′ .greatest A to (a .some)))
+      as-dense row rest′ B b′ A to (a .some) (omega (arith, no-denser row rest A a B back (b′ .some), no-denser row rest′ B b′ A to (a .some)))
 
   -- the next class in other words
   pub next-transport : (row row′ : Row) (rest rest′ A A′ : Doses) → ((j : ℕ) → row j ≡ row′ j) → Alike n rest rest′ → Alike n A A′
@@ -33,12 +49,11 @@ module _ (S : Setting) where
   next-transport row row′ rest rest′ A A′ e h g a =
       let down : (B : Doses) → Sub n B rest′ → Sub n B rest = λ B b k l t. alike-back n rest rest′ h k l (b k l t) in
       let r = a .some in
-      let here : NextClass S row rest′ A′ = record {
-        within = λ k l t. alike-sub n rest rest′ h k l (a .within k l (alike-back n A A′ g k l t));
-        some = (r .0, r .1, alike-sub n A A′ g (r .0) (r .1) (r .2));
-        greatest = λ B b w. rw (weight-alike n grams A A′ g, P-alike S row A A′ g) at (a .greatest B (down B b) w);
-        largest = λ B b w q k l t. alike-sub n A A′ g k l (a .largest B (down B b) w (rw (weight-alike n grams A A′ g, P-alike S row A A′ g) q) k l t);
-      } in
+      let here : NextClass S row rest′ A′ = next-class row rest′ A′
+      (λ k l t. alike-sub n rest rest′ h k l (a .within k l (alike-back n A A′ g k l t)))
+      (r .0, r .1, alike-sub n A A′ g (r .0) (r .1) (r .2))
+      (λ B b w. rw (weight-alike n grams A A′ g, P-alike S row A A′ g) at (no-denser row rest A a B (down B b) w))
+      (λ B b w q k l t. alike-sub n A A′ g k l (as-dense row rest A a B (down B b) w (rw (weight-alike n grams A A′ g, P-alike S row A A′ g) q) k l t)) in
       rw (fun-ext e) at here
 
   -- two next classes are the same set
@@ -64,14 +79,14 @@ module _ (S : Setting) where
 
     -- the rate of B on what A leaves is at most that of A, since A with B has no greater rate than A
     slower : W S B * P S row A ≤ W S A * P S (left S row A) B
-    slower = omega (arith, rw (weight-both, time-both) at (a .greatest (A ∪ B) both some-both))
+    slower = omega (arith, rw (weight-both, time-both) at (no-denser row rest A a (A ∪ B) both some-both))
 
     -- and less, since A contains every set of its rate
     pub falls : Nonempty n B → W S B * P S row A < W S A * P S (left S row A) B
     falls (k, l, t) = elim (eq-or-lt-of-le slower) [
       | inl e ↦
           let same : W S (A ∪ B) * P S row A ≡ W S A * P S row (A ∪ B) = rw (weight-both, time-both) (omega arith) in
-          absurd (apart k l (a .largest (A ∪ B) both some-both same k l (or-right (A k) (B k) t)) t)
+          absurd (apart k l (as-dense row rest A a (A ∪ B) both some-both same k l (or-right (A k) (B k) t)) t)
       | inr h ↦ h
     ]
 

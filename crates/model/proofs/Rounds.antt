@@ -11,6 +11,7 @@ use Rattle.model.specs.Shares.{Closed, Within, missing}
 use Rattle.model.proofs.Sets.{_∩_, and-both, and-left, and-right, inter, weight-mono}
 use Rattle.model.proofs.FanTime.{Heavy, P-mono, weighs}
 use Rattle.model.proofs.Fractions.{compare≤, denser, denser′, pos-left}
+use Rattle.model.proofs.NextClass.{next-class}
 use Rattle.model.proofs.Chains.{denser-part, densest, moves, smaller, some-part}
 
 module _ (S : Setting) (row : Row) where
@@ -31,12 +32,10 @@ module _ (S : Setting) (row : Row) where
     -- nothing is missing: A is the next class
     pub keeps-end : Sub n A rest → Nonempty n A → missing S row A x ≡ 0 → NextClass S row rest A
     unfolding Keeps
-    keeps-end sub some none = record {
-      within = sub;
-      some = some;
-      greatest = λ B h p. elim (compare≤ (W S B * P S row A) (W S A * P S row B)) [ inl g ↦ g | inr g ↦ absurd (no-denser B h (weighs S heavy B p) g) ];
-      largest = λ B h p e. elim (keeps B h (weighs S heavy B p) (omega arith)) [ inl s ↦ s | inr g ↦ absurd (no-part B (weighs S heavy B p) g (omega arith)) ];
-    }
+    keeps-end sub some none =
+        next-class S row rest A sub some
+        (λ B h p. elim (compare≤ (W S B * P S row A) (W S A * P S row B)) [ inl g ↦ g | inr g ↦ absurd (none-denser B h (weighs S heavy B p) g) ])
+        (λ B h p e. elim (keeps B h (weighs S heavy B p) (omega arith)) [ inl s ↦ s | inr g ↦ absurd (no-part B (weighs S heavy B p) g (omega arith)) ])
       where
         no-part : (B : Doses) → 0 < W S B → W S B * P S row (B ∩ A) < W S (B ∩ A) * P S row B → W S A * P S row B ≤ W S B * P S row A → ⊥
         no-part B p g h =
@@ -46,8 +45,8 @@ module _ (S : Setting) (row : Row) where
               denser′ (W S (B ∩ A)) (P S row (B ∩ A)) (W S B) (P S row B) (W S A) (P S row A) g h (weighs S heavy A some),
             )
 
-        no-denser : (B : Doses) → Sub n B rest → 0 < W S B → W S A * P S row B < W S B * P S row A → ⊥
-        no-denser B h p g = elim (keeps B h p (le-of-lt g)) [
+        none-denser : (B : Doses) → Sub n B rest → 0 < W S B → W S A * P S row B < W S B * P S row A → ⊥
+        none-denser B h p g = elim (keeps B h p (le-of-lt g)) [
           | inl s ↦ omega (arith, densest S row A x f none B s)
           | inr q ↦ no-part B p q (le-of-lt g)
         ]

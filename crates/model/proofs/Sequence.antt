@@ -67,12 +67,19 @@ module _ (n : ℕ) (C : ℕ → Doses) where
   abbrev pub Nested : ℕ → Type 0
   Nested i = (l : ℕ) → l < i → Sub n (C l) (remaining C l)
 
+  -- no dose is in two of them
+  pub nested-one : (i : ℕ) → Nested i → (l l′ k : ℕ) → l < i → l′ < i → k < n → T (C l k) → T (C l′ k) → l ≡ l′
+  nested-one i h l l′ k q q′ kn t t′ = elim (compare≤ l l′) [
+    | inl g ↦ elim (eq-or-lt-of-le g) [ inl e ↦ e | inr m ↦ absurd (remaining-apart C l′ k (h l′ q′ k kn t′) (upto-has C l′ l k m t)) ]
+    | inr m ↦ absurd (remaining-apart C l k (h l q k kn t) (upto-has C l l′ k m t′))
+  ]
+
   -- the next of such sets is apart from the union of those before
   pub nested-apart : (i : ℕ) → Nested (suc i) → Apart n (upto C i) (C i)
   nested-apart i h k l t u = remaining-apart C i k (h i (omega arith) k l u) t
 
 module _ (S : Setting) where
-  open Setting S using (doses as n, intervals as J, active, len, grams)
+  open Setting S using (doses as n)
 
   -- ---- there is one sequence
 
@@ -174,6 +181,10 @@ module _ (S : Setting) where
     -- each class lies in what those before it leave
     pub nested : (i : ℕ) → i ≤ p → Nested n C i
     nested i h l q = c .next l (omega arith) .within
+
+    -- no dose is in two classes
+    pub one-class : (l l′ k : ℕ) → l < p → l′ < p → k < n → T (C l k) → T (C l′ k) → l ≡ l′
+    one-class = nested-one n C p (nested p (omega arith))
 
     -- the union of the classes has every dose
     pub all-in : (k : ℕ) → k < n → T (upto C p k)

@@ -3,20 +3,22 @@ use mathlib.Core.Bool.{Bool, _&&_, _||_, false, not, true}
 use mathlib.Core.Path.{_∙_, _≡_, ap, refl, sym}
 use Prim.Native.Nat.{_*_, _+_, _<_, _≤_, suc, zero, ℕ}
 use native.Mathlib.Nat.{le-antisymm}
-use native.Mathlib.Numerals.{add-one}
 use native.Mathlib.Omega.{arith}
 use lib.Dec.{T}
-use Rattle.model.specs.Sets.{Doses, Sub, on, sum, weight}
+use Rattle.model.specs.Sets.{Doses, Nonempty, Sub, on, sum, weight}
 use Rattle.model.proofs.Sums.{le-sum, sum-add, sum-congr, sum-le, sum-lt, sum-pos, sum-scale, sum-swap, sum-tight, sum-zero}
 
 infixl 35 _∩_ _∖_
 infixl 30 _∪_
+-- the doses of A or B
 abbrev pub _∪_ : Doses → Doses → Doses
 (A ∪ B) k = A k || B k
 
+-- those of both
 abbrev pub _∩_ : Doses → Doses → Doses
 (A ∩ B) k = A k && B k
 
+-- those of A that are not in B
 abbrev pub _∖_ : Doses → Doses → Doses
 (A ∖ B) k = A k && not (B k)
 
@@ -47,6 +49,7 @@ on-scale : (a : Bool) (c x : ℕ) → on a (c * x) ≡ c * on a x
 on-scale true c x = refl
 on-scale false c x = omega arith
 
+-- as a product
 pub on-times : (a : Bool) (x : ℕ) → on a x ≡ x * on a 1
 on-times true x = omega arith
 on-times false x = omega arith
@@ -67,19 +70,24 @@ on-part a false x = omega arith
 on-lt : (a b : Bool) (x : ℕ) → T (not a) → T b → 0 < x → on a x < on b x
 on-lt false true x h t p = p
 
+-- both tests hold: so does the left
 pub and-left : (a b : Bool) → T (a && b) → T a
 and-left true b t = tt
 
+-- and the right
 pub and-right : (a b : Bool) → T (a && b) → T b
 and-right true b t = t
 
+-- a member of B is not in A without B
 pub and-not : (a b : Bool) → T b → T (not (a && not b))
 and-not true true t = tt
 and-not false b t = tt
 
+-- both hold: so does their conjunction
 pub and-both : (a b : Bool) → T a → T b → T (a && b)
 and-both true b s t = t
 
+-- tests that give each other are the same
 pub same-test : (a b : Bool) → (T a → T b) → (T b → T a) → a ≡ b
 same-test true true f g = refl
 same-test true false f g = absurd (f tt)
@@ -89,6 +97,7 @@ same-test false false f g = refl
 -- for `search`, at a goal `T (A k && B k)` with `t : T (C k && ..)` in scope
 pub ruleset inter = (and-both, and-left, and-right)
 
+-- what is in the right part is in either
 pub or-right : (a b : Bool) → T b → T (a || b)
 or-right true b t = tt
 or-right false b t = t
@@ -97,27 +106,21 @@ or-right false b t = t
 pub or-left : (a b : Bool) → T a → T (a || b)
 or-left true b t = tt
 
+-- what is in either is in the left or the right
 pub or-elim : {X : Type 0} (a b : Bool) → T (a || b) → (T a → X) → (T b → X) → X
 or-elim true b t f g = f tt
 or-elim false b t f g = g t
 
-pub on-pos : (a : Bool) (x : ℕ) → 0 < on a x → T a
+-- a number above 0: the test holds
+on-pos : (a : Bool) (x : ℕ) → 0 < on a x → T a
 on-pos true x h = tt
 on-pos false x h = omega arith
 
+-- the test holds: the number
 pub on-yes : (a : Bool) (x : ℕ) → T a → on a x ≡ x
 on-yes true x h = refl
 
 -- ---- the weight of a set of the doses below n
-
--- one dose more, as a loop adds it
-pub weight-yes : (n : ℕ) (w : ℕ → ℕ) (A : Doses) → A n ≡ true → weight (n + 1) w A ≡ weight n w A + w n
-unfolding weight sum
-weight-yes n w A e = rw (add-one, e)
-
-pub weight-no : (n : ℕ) (w : ℕ → ℕ) (A : Doses) → A n ≡ false → weight (n + 1) w A ≡ weight n w A
-unfolding weight sum
-weight-no n w A e = rw (add-one, e) (omega arith)
 
 module _ (n : ℕ) where
   -- no dose is in both
@@ -130,41 +133,50 @@ module _ (n : ℕ) where
   unfolding weight
   weight-le v w A B h m = sum-le n (λ k l. on-le (A k) (B k) (v k) (w k) (h k l) (m k l))
 
+  -- more doses weigh no less
   pub weight-mono : (w : ℕ → ℕ) (A B : Doses) → Sub n A B → weight n w A ≤ weight n w B
   weight-mono w A B h = weight-le w w A B (λ k l t p. h k l t) (λ k l t. omega arith)
 
+  -- a union and what is common weigh what the two sets weigh
   pub weight-modular : (w : ℕ → ℕ) (A B : Doses) → weight n w (A ∪ B) + weight n w (A ∩ B) ≡ weight n w A + weight n w B
   unfolding weight
   weight-modular w A B = sym (sum-add n _ _) ∙ sum-congr n (λ k l. on-modular (A k) (B k) (w k)) ∙ sum-add n _ _
 
-  pub weight-none : (w : ℕ → ℕ) (A B : Doses) → Apart A B → weight n w (A ∩ B) ≡ 0
+  -- sets apart have nothing in common
+  weight-none : (w : ℕ → ℕ) (A B : Doses) → Apart A B → weight n w (A ∩ B) ≡ 0
   unfolding weight
   weight-none w A B h = sum-congr n (λ k l. on-off (A k) (B k) (w k) (h k l)) ∙ sum-zero n
 
+  -- sets apart weigh together what their union weighs
   pub weight-union : (w : ℕ → ℕ) (A B : Doses) → Apart A B → weight n w (A ∪ B) ≡ weight n w A + weight n w B
   weight-union w A B h = omega (arith, weight-modular w A B, weight-none w A B h)
 
-  pub weight-pos : (w : ℕ → ℕ) (A : Doses) → 0 < weight n w A → (k : ℕ) × (k < n) × T (A k)
+  -- a set that weighs has a member
+  pub weight-pos : (w : ℕ → ℕ) (A : Doses) → 0 < weight n w A → Nonempty n A
   unfolding weight
   weight-pos w A h = let r = sum-pos n (λ k. on (A k) (w k)) h in (r .0, r .1, on-pos (A (r .0)) (w (r .0)) (r .2))
 
+  -- one member weighs no more than the set
   pub le-weight : (w : ℕ → ℕ) (A : Doses) (k : ℕ) → k < n → T (A k) → w k ≤ weight n w A
   unfolding weight
   le-weight w A k l t = omega (arith, le-sum n (λ k. on (A k) (w k)) k l, on-yes (A k) (w k) t)
 
+  -- weights of two kinds
   pub weight-add : (v w : ℕ → ℕ) (A : Doses) → weight n (λ k. v k + w k) A ≡ weight n v A + weight n w A
   unfolding weight
   weight-add v w A = sum-congr n (λ k l. on-add (A k) (v k) (w k)) ∙ sum-add n _ _
 
+  -- a factor that all weights share
   pub weight-scale : (c : ℕ) (w : ℕ → ℕ) (A : Doses) → weight n (λ k. c * w k) A ≡ c * weight n w A
   unfolding weight
   weight-scale c w A = sum-congr n (λ k l. on-scale (A k) c (w k)) ∙ sum-scale n c _
 
-  -- the weights of a set of all doses, and sums for weights
+  -- all doses together
   pub weight-all : (w : ℕ → ℕ) → weight n w (λ k. true) ≡ sum n w
   unfolding weight
   weight-all w = refl
 
+  -- a set's rows, added up by columns
   pub weight-swap : (m : ℕ) (f : ℕ → ℕ → ℕ) (A : Doses) → weight n (λ k. sum m (λ j. f k j)) A ≡ sum m (λ j. weight n (λ k. f k j) A)
   unfolding weight
   weight-swap m f A = sum-congr n (λ k l. on-sum (A k) m (f k)) ∙ sum-swap n m (λ k j. on (A k) (f k j))
@@ -173,14 +185,17 @@ module _ (n : ℕ) where
   weight-on f A true = refl
   weight-on f A false = omega (arith, weight-scale 0 (λ k. 0) A)
 
+  -- and over a set of columns
   pub weight-swap₂ : (m : ℕ) (f : ℕ → ℕ → ℕ) (A B : Doses) → weight n (λ k. weight m (λ j. f k j) B) A ≡ weight m (λ j. weight n (λ k. f k j) A) B
   unfolding weight
   weight-swap₂ m f A B = weight-swap m (λ k j. on (B j) (f k j)) A ∙ sum-congr m (λ j l. weight-on (λ k. f k j) A (B j))
 
+  -- members that pass a test are counted as the members of a part
   pub weight-and : (B A : Doses) → weight n (λ k. on (B k) 1) A ≡ weight n (λ k. 1) (λ k. A k && B k)
   unfolding weight
   weight-and B A = sum-congr n (λ k l. on-and (A k) (B k))
 
+  -- equal weights
   pub weight-congr : (v w : ℕ → ℕ) (A : Doses) → ((k : ℕ) → k < n → v k ≡ w k) → weight n v A ≡ weight n w A
   unfolding weight
   weight-congr v w A h = sum-congr n (λ k l. ap (on (A k)) (h k l))

@@ -1,9 +1,10 @@
 -- What comes back (document 01): numbers 0 to 12, places and values, and the sequence of checks of planning, judging, drawing and the pen.
 use mathlib.Core.Path.{_≡_}
-use mathlib.Core.Bool.{true}
+use mathlib.Core.Bool.{Bool, true}
 use mathlib.Core.Logic.{_≢_}
 use mathlib.Core.List.{List, _++_}
 use Prim.Native.Nat.{ℕ, zero, suc, _+_, _*_, _≤_, _<_}
+use lib.Dec.{T, ltb}
 use lib.ListN.{length, drop}
 use Rattle.model.specs.Sets.{Doses}
 use Rattle.model.specs.Records.{read, refused}
@@ -37,6 +38,10 @@ done = refusal 0 0
 abbrev pub FirstClass : Order → Doses → Type 0
 FirstClass o A = NextClass (settingOf o) (fansPresent o) (λ k. true) A
 
+-- "first class: W × top seconds above P × top grams"
+abbrev pub aboveTop : Order → Doses → Bool
+aboveTop o A = ltb (P (settingOf o) (fansPresent o) A * o .topGrams) (W (settingOf o) A * o .topSeconds)
+
 -- 9 for the set A
 abbrev pub tooFast : Order → Doses → Answer
 tooFast o A = record {
@@ -47,16 +52,15 @@ tooFast o A = record {
   time = P (settingOf o) (fansPresent o) A;
 }
 
--- the order is refused: by its reading, or 9, "first class: W × top seconds above P × top grams"
+-- the order is refused: by its reading, or by 9
 pub data Refuses (order : List ℕ) : Answer → Type 0 where
   unread : (number place : ℕ) → readOrder order ≡ refused number place → Refuses order (refusal number place)
-  above : (o : Order) (A : Doses) → readOrder order ≡ read o → FirstClass o A
-      → P (settingOf o) (fansPresent o) A * o .topGrams < W (settingOf o) A * o .topSeconds → Refuses order (tooFast o A)
+  above : (o : Order) (A : Doses) → readOrder order ≡ read o → FirstClass o A → T (aboveTop o A) → Refuses order (tooFast o A)
 
 -- the order is accepted
 pub record Accepts (order : List ℕ) (o : Order) : Type 0 where
   pub reads : readOrder order ≡ read o
-  pub slow : (A : Doses) → FirstClass o A → W (settingOf o) A * o .topSeconds ≤ P (settingOf o) (fansPresent o) A * o .topGrams
+  pub slow : (A : Doses) → FirstClass o A → T (aboveTop o A) → ⊥
 
 -- ---- planning
 

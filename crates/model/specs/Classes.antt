@@ -1,8 +1,7 @@
 -- From doses to classes (document 01, "From doses to classes").
-use mathlib.Core.Path.{_≡_}
 use mathlib.Core.Bool.{Bool, true, not, _&&_}
-use Prim.Native.Nat.{ℕ, zero, suc, _+_, _*_, _-_, _^_, _≤_, _<_, min}
-use lib.Dec.{T}
+use Prim.Native.Nat.{ℕ, zero, suc, _+_, _*_, _-_, _^_, _<_, min}
+use lib.Dec.{T, leb, eqb}
 use Rattle.model.specs.Sets.{sum, on, Doses, weight, Sub, Nonempty}
 
 -- what the classes are worked out from: doses and intervals by number, which dose is active where, lengths, grams
@@ -41,13 +40,21 @@ module _ (S : Setting) where
   unfoldable pub P : Row → Doses → ℕ
   P row A = sum intervals (λ j. len j * openFans row A j)
 
+  -- "Fractions are compared by exact products": the rate of B is at most that of A
+  abbrev pub noDenser : Row → Doses → Doses → Bool
+  noDenser row B A = leb (W B * P row A) (W A * P row B)
+
+  -- and here it is that of A
+  abbrev pub asDense : Row → Doses → Doses → Bool
+  asDense row B A = eqb (W B * P row A) (W A * P row B)
+
   -- "The next class is the set with the greatest W/P among nonempty sets of remaining doses; among equals, the one that
-  -- contains all others." "Fractions are compared by exact products"
+  -- contains all others."
   pub record NextClass (row : Row) (rest A : Doses) : Type 0 where
     pub within : Sub doses A rest
     pub some : Nonempty doses A
-    pub greatest : (B : Doses) → Sub doses B rest → Nonempty doses B → W B * P row A ≤ W A * P row B
-    pub largest : (B : Doses) → Sub doses B rest → Nonempty doses B → W B * P row A ≡ W A * P row B → Sub doses B A
+    pub greatest : (B : Doses) → Sub doses B rest → Nonempty doses B → T (noDenser row B A)
+    pub largest : (B : Doses) → Sub doses B rest → Nonempty doses B → T (asDense row B A) → Sub doses B A
 
   -- fans − fans reserved by the first i classes, in interval j
   unfoldable pub free : Row → (ℕ → Doses) → ℕ → Row
