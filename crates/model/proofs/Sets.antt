@@ -112,7 +112,7 @@ or-elim true b t f g = f tt
 or-elim false b t f g = g t
 
 -- a number above 0: the test holds
-on-pos : (a : Bool) (x : ℕ) → 0 < on a x → T a
+pub on-pos : (a : Bool) (x : ℕ) → 0 < on a x → T a
 on-pos true x h = tt
 on-pos false x h = omega arith
 
