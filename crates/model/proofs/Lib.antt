@@ -1,3 +1,4 @@
+pub mod CaseTests
 pub mod Sums
 pub mod Sets
 pub mod Fractions
