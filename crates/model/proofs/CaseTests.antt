@@ -63,12 +63,18 @@ module _ (S : Setting) where
   aloneTest row rest A =
       everySet doses (λ marks. not (nextTest row rest (marked marks)) || (insideTest (marked marks) A && insideTest A (marked marks)))
 
-  -- x are valid shares of A
+  -- x are valid shares of A: within the rooms, the intervals full, the needs met
+  unfoldable pub roomTest : Row → Doses → (ℕ → ℕ → ℕ) → ℕ → Bool
+  roomTest row A x k = allBelow intervals (λ j. leb (x k j) (room S row A k j))
+
+  unfoldable pub fullTest : Row → Doses → (ℕ → ℕ → ℕ) → ℕ → Bool
+  fullTest row A x j = eqb (given S row A x j) (holds S row A j)
+
+  unfoldable pub metTest : Row → Doses → (ℕ → ℕ → ℕ) → ℕ → Bool
+  metTest row A x k = not (A k) || eqb (got S row A x k) (need S row A k)
+
   unfoldable pub validTest : Row → Doses → (ℕ → ℕ → ℕ) → Bool
-  validTest row A x =
-      allBelow doses (λ k. allBelow intervals (λ j. leb (x k j) (room S row A k j)))
-      && allBelow intervals (λ j. eqb (given S row A x j) (holds S row A j))
-      && allBelow doses (λ k. not (A k) || eqb (got S row A x k) (need S row A k))
+  validTest row A x = allBelow doses (roomTest row A x) && allBelow intervals (fullTest row A x) && allBelow doses (metTest row A x)
 
 -- ---- tests of equality
 
@@ -83,8 +89,9 @@ sameClass a b = eqb (a .number) (b .number) && eqb (a .doses) (b .doses) && eqb 
 
 unfoldable pub sameSlot : Slot → Slot → Bool
 sameSlot a b =
-    eqb (a .fan) (b .fan) && eqb (a .dose) (b .dose) && eqb (a .startTick) (b .startTick) && eqb (a .startPart) (b .startPart) && eqb (a .endTick) (b .endTick)
-    && eqb (a .endPart) (b .endPart) && eqb (a .grams) (b .grams) && eqb (a .time) (b .time) && eqb (a .class) (b .class)
+    (eqb (a .fan) (b .fan) && eqb (a .dose) (b .dose) && eqb (a .class) (b .class))
+    && (eqb (a .startTick) (b .startTick) && eqb (a .startPart) (b .startPart) && eqb (a .endTick) (b .endTick) && eqb (a .endPart) (b .endPart))
+    && (eqb (a .grams) (b .grams) && eqb (a .time) (b .time))
 
 unfoldable pub sameState : State → State → Bool
 sameState finished finished = true
@@ -109,7 +116,7 @@ samePoint a b = eqb (a .amount) (b .amount) && sameState (a .state) (b .state)
 
 unfoldable pub sameAnswer : Answer → Answer → Bool
 sameAnswer a b =
-    eqb (a .number) (b .number) && eqb (a .place) (b .place) && eqb (a .set) (b .set) && eqb (a .grams) (b .grams) && eqb (a .time) (b .time)
+    eqb (a .number) (b .number) && eqb (a .place) (b .place) && (eqb (a .set) (b .set) && eqb (a .grams) (b .grams) && eqb (a .time) (b .time))
 
 unfoldable pub emptyList : {A : Type 0} → List A → Bool
 emptyList [] = true
@@ -142,16 +149,27 @@ module _ (o : Order) (c : Case) where
   -- refused 9
   unfoldable pub fastTest : Bool
   fastTest =
-      eqb (length (c .sets)) 1 && classTest 0 && aboveTop o (caseSets c 0) && sameAnswer (tooFast o (caseSets c 0)) (c .answer) && nothingTest c
+      eqb (length (c .sets)) 1 && classTest 0 && (aboveTop o (caseSets c 0) && sameAnswer (tooFast o (caseSets c 0)) (c .answer) && nothingTest c)
+
+  -- no dose is left
+  unfoldable pub doneTest : ℕ → Bool
+  doneTest k = not (remaining (caseSets c) (length (c .sets)) k)
+
+  -- the first class, if there is one, is not above the top rate
+  unfoldable pub slowTest : Bool
+  slowTest = emptyList (c .sets) || not (aboveTop o (caseSets c 0))
+
+  -- the records of the plan
+  unfoldable pub recordsTest : Bool
+  recordsTest =
+      sameList sameClass (classesOf o (length (c .sets)) (caseSets c)) (c .classes)
+      && sameList sameSlot (slotsOf o (length (c .sets)) (caseSets c) (caseShares c)) (c .slots)
 
   -- planned
   unfoldable pub planTest : Bool
   planTest =
-      allBelow (length (c .sets)) classTest && allBelow (settingOf o .doses) (λ k. not (remaining (caseSets c) (length (c .sets)) k))
-      && (emptyList (c .sets) || not (aboveTop o (caseSets c 0))) && allBelow (length (c .sets)) sharesTest
-      && sameList sameClass (classesOf o (length (c .sets)) (caseSets c)) (c .classes)
-      && sameList sameSlot (slotsOf o (length (c .sets)) (caseSets c) (caseShares c)) (c .slots) && allIn pointTest (c .points)
-      && sameAnswer done (c .answer)
+      (allBelow (length (c .sets)) classTest && allBelow (settingOf o .doses) doneTest && slowTest)
+      && (allBelow (length (c .sets)) sharesTest && recordsTest) && (allIn pointTest (c .points) && sameAnswer done (c .answer))
 
 unfoldable pub readingTest : Case → Reading Order → Bool
 readingTest c (refused number place) = sameAnswer (refusal number place) (c .answer) && not (eqb number 0) && nothingTest c
@@ -163,5 +181,5 @@ caseTest c = readingTest c (readOrder (c .order))
 
 -- every row passes
 pub cases-pass : T (allIn caseTest cases)
-unfolding allBelow allIn everySet insideTest someTest givesWay nextTest aloneTest validTest sameList sameClass sameSlot sameState samePoint sameAnswer emptyList nothingTest classTest sharesTest pointTest fastTest planTest readingTest caseTest sum weight numberAt numberBytes fieldsAt blankAt recordBytes readFrom entryOf fansIn dosesIn clashesAny noClash orderOf readOrder openFans P free remaining insert instants gather total cut line pieceSlot laneSlots intervalSlots tableSlots unitsBefore timeOf drawn fedAt stateAt listed
+unfolding allBelow allIn everySet insideTest someTest givesWay nextTest aloneTest roomTest fullTest metTest validTest sameList sameClass sameSlot sameState samePoint sameAnswer emptyList nothingTest classTest sharesTest pointTest fastTest doneTest slowTest recordsTest planTest readingTest caseTest sum weight numberAt numberBytes fieldsAt blankAt recordBytes readFrom entryOf fansIn dosesIn clashesAny noClash orderOf readOrder openFans P free remaining insert instants gather total cut line pieceSlot laneSlots intervalSlots tableSlots unitsBefore timeOf drawn fedAt stateAt listed
 cases-pass = tt

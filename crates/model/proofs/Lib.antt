@@ -19,3 +19,12 @@ pub mod OwnPlan
 pub mod Refusal
 pub mod Orders
 pub mod Intervals
+pub mod Lists
+pub mod Wrap
+pub mod Lanes
+pub mod Slots
+pub mod Records
+pub mod Plans
+pub mod Planner
+pub mod CaseLaws
+pub mod Cases
