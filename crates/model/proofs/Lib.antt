@@ -18,3 +18,9 @@ pub mod OwnPlan
 pub mod Refusal
 pub mod Orders
 pub mod Intervals
+pub mod Lists
+pub mod Wrap
+pub mod Lanes
+pub mod Slots
+pub mod Windows
+pub mod ValidShares
