@@ -1,6 +1,5 @@
 -- Laws of the slots of one class in one interval: each lies there, they follow each other, and each share is whole.
 use mathlib.Core.Path.{_∙_, _≡_, ap, refl}
-use mathlib.Core.List.{map}
 use Prim.Native.Nat.{ℕ, _+_, _*_, _-_, _/_, _%_, _≤_, _<_}
 use native.Mathlib.Nat.{div-add-mod', lt-of-mul-lt-mul-right, mod-lt, mul-le-mul-right, mul-pos}
 use native.Mathlib.Omega.{arith}

@@ -22,5 +22,9 @@ pub mod Lists
 pub mod Wrap
 pub mod Lanes
 pub mod Slots
+pub mod Records
+pub mod Plans
+pub mod Planner
 pub mod Windows
 pub mod ValidShares
+pub mod PlanPieces

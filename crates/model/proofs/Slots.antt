@@ -1,7 +1,7 @@
 -- Valid shares give slots that stand: over the classes of an interval, over the intervals, and for an order and its classes.
 use mathlib.Core.Bool.{Bool, _&&_, false, true}
-use mathlib.Core.Logic.{_⊎_, inl, inr}
-use mathlib.Core.Path.{_∙_, _≡_, ap, sym}
+use mathlib.Core.Logic.{inl, inr}
+use mathlib.Core.Path.{_∙_, _≡_, ap}
 use mathlib.Core.List.{List}
 use Prim.Native.Nat.{ℕ, suc, zero, _+_, _*_, _-_, _≤_, _<_, min}
 use native.Mathlib.Nat.{eq-or-lt-of-le, eq-zero-or-pos, mul-le-mul-right, mul-lt-mul-of-pos-right}
@@ -10,9 +10,9 @@ use native.Mathlib.Omega.{arith}
 use lib.Dec.{T, leb, leb→le}
 use lib.ListN.{length}
 use Rattle.model.specs.Sets.{Doses, on, sum}
-use Rattle.model.specs.Lists.{All, Pairs, gather, total}
+use Rattle.model.specs.Lists.{All, Pairs, total}
 use Rattle.model.specs.Orders.{Order, doseAt}
-use Rattle.model.specs.Classes.{Classes, Setting, W, classP, free, openFans, reserved}
+use Rattle.model.specs.Classes.{Classes, Setting, W, classP, openFans, reserved}
 use Rattle.model.specs.Intervals.{activeAt, fansPresent, instantAt, intervalCount, settingOf}
 use Rattle.model.specs.Plans.{Slot}
 use Rattle.model.specs.Layout.{Table, intervalSlots, lane, laneSlots, slotsOf, tableOf, tableSlots}
@@ -20,14 +20,13 @@ use Rattle.model.specs.Stands.{Between, EndsBy, InInterval, InOrder, Nam
 use Rattle.model.specs.Answers.{ValidShares}
 use Rattle.model.proofs.Sums.{last, one-term, sum-add, sum-congr, sum-le, sum-swap}
 use Rattle.model.proofs.Sets.{and-left, and-right}
-use Rattle.model.proofs.FanTime.{Heavy, weighs}
-use Rattle.model.proofs.Fractions.{compare≤}
+use Rattle.model.proofs.FanTime.{weighs}
 use Rattle.model.proofs.Sequence.{all-in, nested, one-class, prefix-interval, upto-find}
 use Rattle.model.proofs.Orders.{Fit}
 use Rattle.model.proofs.Intervals.{few-intervals, instants-rise}
 use Rattle.model.proofs.Lists.{All-gather, All-imp, Pairs-gather, Pairs-imp, Pairs-with, length-gather, sum-before, sum-const, sum-pred, total-gather}
 use Rattle.model.proofs.Wrap.{above}
-use Rattle.model.proofs.Lanes.{Laid, Next, laid, laid-few, laid-next, laid-units}
+use Rattle.model.proofs.Lanes.{laid, laid-few, laid-next, laid-units}
 
 -- what ends by a tick ends before what starts at that tick or later
 pub ticks : {a b c d : ℕ} {s u : Slot} → Between a b s → Between c d u → b ≤ c → EndsBy s u

@@ -1,14 +1,13 @@
 -- Laws of the line of one class in one interval: its pieces follow each other, no dose meets itself, each share is whole, few are cut.
 use mathlib.Core.Path.{_≡_, refl, sym, ap, _∙_}
-use mathlib.Core.Bool.{Bool, true, false, not}
-use mathlib.Core.Logic.{_⊎_, inl, inr}
-use mathlib.Core.List.{List, [], _∷_, _++_}
+use mathlib.Core.Bool.{Bool, true, false}
+use mathlib.Core.Logic.{inl, inr}
+use mathlib.Core.List.{List, [], _∷_}
 use Prim.Native.Nat.{ℕ, zero, suc, _+_, _*_, _-_, _/_, _%_, _≤_, _<_, min}
-use native.Mathlib.Nat.{div-add-mod', mod-lt, le-div-iff-mul-le, div-lt-iff-lt-mul, eq-zero-or-pos, lt-of-not-le, mul-le-mul-right, lt-of-mul-lt-mul-right, div-mul-le-self, div-le-self, mul-pos}
-use native.Mathlib.Decide.{decLe}
+use native.Mathlib.Nat.{div-add-mod', mod-lt, le-div-iff-mul-le, div-lt-iff-lt-mul, eq-zero-or-pos, lt-of-mul-lt-mul-right, div-mul-le-self, div-le-self, mul-pos}
 use native.Mathlib.Omega.{arith}
 use borrow.Author.Tests.{eq-eqb, ne-eqb, le-leb, lt-leb}
-use lib.Dec.{T, eqb, leb, eqb→eq, eqb-refl}
+use lib.Dec.{eqb}
 use lib.ListN.{length, length-append}
 use Rattle.model.specs.Sets.{sum, on}
 use Rattle.model.specs.Lists.{gather, total, All, none, also, Pairs, lone, then}
@@ -17,24 +16,28 @@ use Rattle.model.proofs.Sums.{one-term, sum-congr}
 use Rattle.model.proofs.Fractions.{compare≤}
 use Rattle.model.proofs.Lists.{All-gather, All-imp, Pairs-gather, sum-before, total-gather}
 
-pub div-mono : {y z C : ℕ} → 0 < C → y ≤ z → y / C ≤ z / C
+div-mono : {y z C : ℕ} → 0 < C → y ≤ z → y / C ≤ z / C
 div-mono {y} {z} {C} pos h = le-div-iff-mul-le {k = C} {x = y / C} {y = z} pos .1 (omega (arith, div-mul-le-self y C))
 
 -- ---- a share by its three cases
 
 module _ (C k a x : ℕ) where
+  -- no share, no piece
   pub cut-none : x ≡ 0 → cut C k a x ≡ []
   unfolding cut
   cut-none e = rw (eq-eqb x 0 e)
 
+  -- a share on one stretch
   pub cut-uncut : 0 < x → a % C + x ≤ C → cut C k a x ≡ uncut C k a x ∷ []
   unfolding cut
   cut-uncut p h = rw (ne-eqb x 0 (λ e. omega arith), le-leb (a % C + x) C h)
 
+  -- a share over a cut
   pub cut-two : 0 < x → C < a % C + x → cut C k a x ≡ before C k a x ∷ behind C k a x ∷ []
   unfolding cut
   cut-two p h = rw (ne-eqb x 0 (λ e. omega arith), lt-leb (a % C + x) C h)
 
+  -- what holds in each of the three cases
   pub cut-cases : (G : List Piece → Type 0) → (x ≡ 0 → G []) → (0 < x → a % C + x ≤ C → G (uncut C k a x ∷ []))
       → (0 < x → C < a % C + x → G (before C k a x ∷ behind C k a x ∷ [])) → G (cut C k a x)
   cut-cases G f g h = elim (eq-zero-or-pos x) [
@@ -61,8 +64,8 @@ on-two false u v x e = omega arith
 -- ---- pieces of stretches of C units
 
 module _ (C : ℕ) where
-  -- of the share x of dose k at a
-  pub record Part (k a x : ℕ) (t : Piece) : Type 0 where
+  -- a piece of the share x of dose k at a
+  pub record PieceOf (k a x : ℕ) (t : Piece) : Type 0 where
     pub own : t .dose ≡ k
     pub long : t .low < t .high
     pub fits : t .high ≤ C
@@ -75,20 +78,23 @@ module _ (C : ℕ) where
     pub once : t .dose ≡ u .dose → u .high ≤ t .low
 
   module _ (pos : 0 < C) (k a x : ℕ) (lim : x ≤ C) where
-    pub cut-parts : All (Part k a x) (cut C k a x)
-    cut-parts =
+    -- each piece of a share lies in the share
+    pub cut-pieces : All (PieceOf k a x) (cut C k a x)
+    cut-pieces =
         let e : a / C * C + a % C ≡ a = div-add-mod' a C in
         let m : a % C < C = mod-lt a pos in
-        cut-cases C k a x (All (Part k a x)) (λ z. none)
+        cut-cases C k a x (All (PieceOf k a x)) (λ z. none)
         (λ p h. also (record { own = refl; long = omega arith; fits = omega arith; after = omega arith; until = omega arith }) none)
         (λ p h. also (record { own = refl; long = omega arith; fits = omega arith; after = omega arith; until = omega arith })
         (also (record { own = refl; long = omega arith; fits = omega arith; after = omega arith; until = omega arith }) none))
 
+    -- the second follows the first
     pub cut-follow : Pairs Follow (cut C k a x)
     cut-follow =
         cut-cases C k a x (Pairs Follow) (λ z. lone) (λ p h. then none lone)
         (λ p h. then (also (record { next = omega arith; once = λ q. omega arith }) none) (then none lone))
 
+    -- together they have the share's units
     pub cut-units : (d : ℕ) → total (units d) (cut C k a x) ≡ on (eqb d k) x
     unfolding total
     cut-units d =
@@ -111,14 +117,15 @@ abbrev pub above : ℕ → (ℕ → ℕ) → ℕ
 above n x = sum n (λ k. min 1 (x k))
 
 module _ (C : ℕ) (pos : 0 < C) (x : ℕ → ℕ) (n : ℕ) (lim : (k : ℕ) → k < n → x k ≤ C) where
+  -- the pieces of the line follow each other
   pub line-follow : Pairs (Follow C) (line C x n)
   unfolding line
   line-follow =
-      Pairs-gather (λ k. Part C k (sum k x) (x k)) n _ (λ k l. cut-parts C pos k (sum k x) (x k) (lim k l))
+      Pairs-gather (λ k. PieceOf C k (sum k x) (x k)) n _ (λ k l. cut-pieces C pos k (sum k x) (x k) (lim k l))
       (λ i k l q t u s r. record { next = omega (arith, s .until, r .after, sum-before k x i l); once = λ e. absurd (omega (arith, s .own, r .own)) })
       (λ k l. cut-follow C pos k (sum k x) (x k) (lim k l))
 
-  -- of m stretches in all
+  -- a piece of the line, of m stretches in all
   pub record Placed (m : ℕ) (t : Piece) : Type 0 where
     pub dose : t .dose < n
     pub some : 0 < x (t .dose)
@@ -126,6 +133,7 @@ module _ (C : ℕ) (pos : 0 < C) (x : ℕ → ℕ) (n : ℕ) (lim : (k : ℕ) �
     pub long : t .low < t .high
     pub fits : t .high ≤ C
 
+  -- every piece has its place
   pub line-placed : (m : ℕ) → sum n x ≤ m * C → All (Placed m) (line C x n)
   unfolding line
   line-placed m e =
@@ -135,8 +143,9 @@ module _ (C : ℕ) (pos : 0 < C) (x : ℕ → ℕ) (n : ℕ) (lim : (k : ℕ) �
         fan = lt-of-mul-lt-mul-right C (omega (arith, s .long, s .until, sum-before n x k l));
         long = s .long;
         fits = s .fits;
-      }) (cut-parts C pos k (sum k x) (x k) (lim k l)))
+      }) (cut-pieces C pos k (sum k x) (x k) (lim k l)))
 
+  -- the pieces of a dose have its share
   pub line-units : (d : ℕ) → d < n → total (units d) (line C x n) ≡ x d
   unfolding line
   line-units d h =
@@ -144,6 +153,7 @@ module _ (C : ℕ) (pos : 0 < C) (x : ℕ → ℕ) (n : ℕ) (lim : (k : ℕ) �
       ∙ one-term n d (λ k. on (eqb d k) (x k)) h (λ k l g. rw (ne-eqb d k (λ e. g (sym e))))
       ∙ rw (eq-eqb d d refl)
 
+-- a piece for each share above zero, and one for each multiple of C that is passed
 pub line-length : (C : ℕ) → 0 < C → (x : ℕ → ℕ) (n : ℕ) → ((k : ℕ) → k < n → x k ≤ C) → length (line C x n) ≤ above n x + (sum n x - 1) / C
 unfolding line gather sum
 line-length C pos x zero lim = omega arith
