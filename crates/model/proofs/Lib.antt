@@ -28,3 +28,6 @@ pub mod Planner
 pub mod Windows
 pub mod ValidShares
 pub mod PlanPieces
+pub mod Judging
+pub mod FreePieces
+pub mod DrawnLine

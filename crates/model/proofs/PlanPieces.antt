@@ -7,8 +7,8 @@ use Prim.Native.Nat.{ℕ, zero, suc, _+_, _*_, _-_, _≤_, _<_, min}
 use native.Mathlib.Nat.{le-of-lt, le-of-mul-le-mul-left, lt-of-mul-lt-mul-left, min-eq-left, min-eq-right, mul-le-mul-left, mul-lt-mul-of-pos-left, mul-pos, mul-sub}
 use native.Mathlib.Numerals.{add-one}
 use native.Mathlib.Omega.{arith}
-use borrow.Author.Tests.{eq-eqb, eqb-false, eqb-true, ne-eqb}
-use lib.Dec.{T, eqb, leb, leb→le, le→leb, ltb, ltb→lt, lt→ltb}
+use borrow.Author.Tests.{eqb-true}
+use lib.Dec.{T, eqb, eqb-refl, eqb→eq, leb, leb→le, le→leb, ltb, ltb→lt, lt→ltb}
 use lib.ListN.{length, getD}
 use Rattle.model.specs.Sets.{Doses, on, weight}
 use Rattle.model.specs.Lists.{total}
@@ -19,7 +19,7 @@ use Rattle.model.specs.Plans.{Slot}
 use Rattle.model.specs.Stands.{EndsBy, Named, NoOverlap, SlotsStand, ends, starts, unitsOf}
 use Rattle.model.specs.Line.{Covers, unitsBefore}
 use Rattle.model.proofs.Sums.{sum-congr, sum-scale}
-use Rattle.model.proofs.Sets.{and-both, and-left, and-right, size-all}
+use Rattle.model.proofs.Sets.{and-both, and-left, and-right, same-test, size-all}
 use Rattle.model.proofs.Fractions.{compare≤, pos-left}
 use Rattle.model.proofs.Sequence.{Nested, nested-one}
 use Rattle.model.proofs.Cells.{cover}
@@ -55,13 +55,17 @@ noSlot = record { fan = 0; dose = 0; startTick = 0; startPart = 0; endTick = 0; 
 abbrev pub slotAt : List Slot → ℕ → Slot
 slotAt slots i = getD slots i noSlot
 
+-- the same test
+pub eqb-flip : (d k : ℕ) → eqb d k ≡ eqb k d
+eqb-flip d k = same-test (eqb d k) (eqb k d) (λ t. rw (eqb→eq d k t) (eqb-refl k)) (λ t. rw (eqb→eq k d t) (eqb-refl d))
+
 -- a number of dose d's pieces against one of its slots
 on-dose : (d k y z R : ℕ) → (d ≡ k → y ≡ R * z) → on (eqb d k) y ≡ R * on (eqb k d) z
-on-dose d k y z R h = go (eqb d k) refl
+on-dose d k y z R h = go (eqb d k) refl ∙ ap (λ (b : Bool). R * on b z) (eqb-flip d k)
   where
-    go : (b : Bool) → eqb d k ≡ b → on b y ≡ R * on (eqb k d) z
-    go true e = rw (eq-eqb k d (sym (eqb-true d k e))) (h (eqb-true d k e))
-    go false e = rw (ne-eqb k d (λ g. eqb-false d k e (sym g))) (omega arith)
+    go : (b : Bool) → eqb d k ≡ b → on b y ≡ R * on b z
+    go true e = h (eqb-true d k e)
+    go false e = omega arith
 
 -- R times a difference, and times what lies before a limit
 times-less : (R a b : ℕ) → a * R - b * R ≡ R * (a - b)
@@ -170,7 +174,8 @@ module _ (o : Order) (p : ℕ) (C : ℕ → Doses) (q : ℕ) where
 
   -- ---- two slots
 
-  ends-by : (s u : Slot) → Named o p C s → Named o p C u → 0 < grid → EndsBy s u → ends s * scale s ≤ starts u * scale u
+  -- one ends in a cell before the other starts
+  pub ends-by : (s u : Slot) → Named o p C s → Named o p C u → 0 < grid → EndsBy s u → ends s * scale s ≤ starts u * scale u
   ends-by s u n m pos e =
       le-of-mul-le-mul-left {k = grid} (omega (
         arith,
