@@ -31,3 +31,7 @@ pub mod PlanPieces
 pub mod Judging
 pub mod FreePieces
 pub mod DrawnLine
+pub mod Standing
+pub mod Refusing
+pub mod Demand2
+pub mod Demand3
