@@ -147,19 +147,23 @@ module _ {A : Type 0} where
 -- ---- lists of which each member is changed
 
 module _ {A B : Type 0} (f : A → B) where
+  -- what holds of all once changed
   pub All-map : {P : B → Type 0} {l : List A} → All (λ a. P (f a)) l → All P (map f l)
   All-map none = none
   All-map (also p q) = also p (All-map q)
 
+  -- and of each two
   pub Pairs-map : {R : B → B → Type 0} {l : List A} → Pairs (λ a b. R (f a) (f b)) l → Pairs R (map f l)
   Pairs-map lone = lone
   Pairs-map (then h p) = then (All-map h) (Pairs-map p)
 
+  -- what they come to
   pub total-map : (g : B → ℕ) (l : List A) → total g (map f l) ≡ total (λ a. g (f a)) l
   unfolding total
   total-map g [] = refl
   total-map g (a ∷ l) = omega (arith, total-map g l)
 
+  -- gathered lists, changed
   pub map-gather : (n : ℕ) (g : ℕ → List A) → map f (gather n g) ≡ gather n (λ k. map f (g k))
   unfolding gather
   map-gather zero g = refl

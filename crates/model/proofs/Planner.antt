@@ -1,6 +1,7 @@
 -- The planner's plan stands: its records hold its classes and slots, and its size.
 use mathlib.Core.Bool.{true}
 use mathlib.Core.Path.{_≡_}
+use mathlib.Core.List.{List}
 use Prim.Native.Nat.{ℕ, suc, zero, _+_, _*_, _≤_, _<_}
 use native.Mathlib.Nat.{le-of-mul-le-mul-right, mul-le-mul-left, mul-le-mul-right}
 use native.Mathlib.Numerals.{add-one}
@@ -11,9 +12,9 @@ use Rattle.model.specs.Lists.{also, none}
 use Rattle.model.specs.Orders.{Order}
 use Rattle.model.specs.Classes.{Classes, P, Row, Setting, W, classP, free, openFans}
 use Rattle.model.specs.Intervals.{fansPresent, instantAt, settingOf}
-use Rattle.model.specs.Plans.{Slot}
+use Rattle.model.specs.Plans.{Slot, planRecords, slotsRead}
 use Rattle.model.specs.Layout.{classAt, classesOf, slotsOf}
-use Rattle.model.specs.Stands.{Named, Stands, ends}
+use Rattle.model.specs.Stands.{Named, SlotsStand, Stands, ends}
 use Rattle.model.specs.Answers.{ValidShares, planBytes, planRoom}
 use Rattle.model.proofs.Sums.{sum-le, sum-scale}
 use Rattle.model.proofs.Sets.{weight-all, weight-le}
@@ -22,7 +23,7 @@ use Rattle.model.proofs.Orders.{Fit}
 use Rattle.model.proofs.Intervals.{instants-rise, instants-week}
 use Rattle.model.proofs.Lists.{All-gather, All-imp, length-singles, sum-const}
 use Rattle.model.proofs.Slots.{few-slots, laid-stand}
-use Rattle.model.proofs.Plans.{NarrowClass, NarrowSlot, length-plan, plan-back}
+use Rattle.model.proofs.Plans.{NarrowClass, NarrowSlot, length-plan, plan-back, slots-read}
 
 -- members of one weight at most, together
 weight-most : (n : ℕ) (w : ℕ → ℕ) (m : ℕ) (A : Doses) → ((k : ℕ) → k < n → w k ≤ m) → weight n w A ≤ n * m
@@ -33,6 +34,10 @@ free-most : (S : Setting) (F : Row) (C : ℕ → Doses) (i j : ℕ) → free S F
 unfolding free
 free-most S F C zero j = omega arith
 free-most S F C (suc i) j = omega (arith, free-most S F C i j)
+
+-- the slots that are read from a plan that stands are those that stand
+pub stand-read : {o : Order} {plan : List ℕ} (h : Stands o plan) → SlotsStand o (h .count) (h .sets) (slotsRead (planRecords plan))
+stand-read {o} {plan} h = rw (slots-read plan (classesOf o (h .count) (h .sets)) (h .slots) (h .records)) (h .stand)
 
 module _ (o : Order) (fit : Fit o) (p : ℕ) (C : ℕ → Doses) where
   abbrev S : Setting

@@ -17,12 +17,14 @@ use Rattle.model.proofs.Records.{Bytes, Fits, blank-back, bytes-drop, b
 
 -- ---- fields that fit their records
 
+-- of a class
 pub record NarrowClass (c : Class) : Type 0 where
   pub number : c .number < 256
   pub doses : c .doses < 65536
   pub grams : c .grams < 4294967296
   pub time : c .time < 4294967296
 
+-- of a slot
 pub record NarrowSlot (s : Slot) : Type 0 where
   pub fan : s .fan < 256
   pub dose : s .dose < 65536
@@ -34,6 +36,7 @@ pub record NarrowSlot (s : Slot) : Type 0 where
   pub time : s .time < 4294967296
   pub class : s .class < 256
 
+-- of either
 abbrev pub Narrow : PlanRecord → Type 0
 Narrow (classRecord c) = NarrowClass c
 Narrow (slotRecord s) = NarrowSlot s
@@ -92,7 +95,6 @@ one-back (slotRecord s) h i =
 refused-read : {A : Type 0} {n place : ℕ} {a : A} → refused n place ≡ read a → ⊥
 refused-read e = let z : _≡_ {A = ℕ} 0 1 = cc in omega arith
 
--- what is read is written again
 module _ (b : List ℕ) (h : Bytes b) (size : length b ≡ 32) where
   fields-class : getD b 0 0 ≡ 0x43 → classFields 0x43 (classOf b) ≡ fieldsAt classParts b 0
   unfolding fieldsAt
@@ -110,6 +112,7 @@ module _ (b : List ℕ) (h : Bytes b) (size : length b ≡ 32) where
   unfolding planRecordBytes sizeOf
   slot-taken k z = ap (recordBytes slotParts) (fields-slot k) ∙ fields-taken slotParts b h 0 z (omega arith) ∙ take-all 32 b (omega arith)
 
+  -- what is read is written again
   pub one-taken : (i : ℕ) (r : PlanRecord) → planRecordOf b i ≡ read r → planRecordBytes r ≡ b
   unfolding planRecordOf
   one-taken i r = go (eqb (getD b 0 0) 0x43) (eqb (getD b 0 0) 0x53) (blankAt classParts b 0) (blankAt slotParts b 0) refl refl refl refl
@@ -132,15 +135,21 @@ unfolding recordsBytes
 length-records [] = refl
 length-records (r ∷ rs) = omega (arith, length-append (planRecordBytes r) (recordsBytes rs), length-one r, length-records rs)
 
+-- the records of one list behind those of another
+pub records-append : (rs ts : List PlanRecord) → recordsBytes (rs ++ ts) ≡ recordsBytes rs ++ recordsBytes ts
+unfolding recordsBytes
+records-append [] ts = refl
+records-append (r ∷ rs) ts = rw (records-append rs ts) (sym (append-assoc (planRecordBytes r) (recordsBytes rs) (recordsBytes ts)))
+
 reads-from : (rs : List PlanRecord) → All Narrow rs → (pre : List ℕ) (i : ℕ) → length pre ≡ 32 * i
     → readFrom planRecordOf (pre ++ recordsBytes rs) i (length rs) ≡ read rs
 unfolding recordsBytes readFrom
 reads-from [] none pre i e = refl
 reads-from (r ∷ rs) (also h g) pre i e =
     let here : recordAt (pre ++ (planRecordBytes r ++ recordsBytes rs)) i ≡ planRecordBytes r =
-        ap (take 32) (drop-at pre (planRecordBytes r ++ recordsBytes rs) (32 * i) e) ∙ take-at (planRecordBytes r) (recordsBytes rs) 32 (length-one r) in
+    ap (take 32) (drop-at pre (planRecordBytes r ++ recordsBytes rs) (32 * i) e) ∙ take-at (planRecordBytes r) (recordsBytes rs) 32 (length-one r) in
     let later : readFrom planRecordOf (pre ++ (planRecordBytes r ++ recordsBytes rs)) (suc i) (length rs) ≡ read rs =
-        rw append-assoc at (reads-from rs g (pre ++ planRecordBytes r) (suc i) (omega (arith, length-append pre (planRecordBytes r), length-one r))) in
+    rw append-assoc at (reads-from rs g (pre ++ planRecordBytes r) (suc i) (omega (arith, length-append pre (planRecordBytes r), length-one r))) in
     rw (here, one-back r h i, later)
 
 -- records that are written are read again
@@ -162,8 +171,8 @@ module _ (b : List ℕ) (h : Bytes b) where
           → andThen one (λ a. andThen others (λ rest. read (a ∷ rest))) ≡ read rs → recordsBytes rs ≡ drop (32 * i) b
       go (read r) (read t) f later q =
           let here : planRecordBytes r ≡ recordAt b i =
-              one-taken (recordAt b i) (bytes-take 32 (drop (32 * i) b) (bytes-drop (32 * i) b h))
-              (omega (arith, length-take 32 (drop (32 * i) b), length-drop (32 * i) b)) i r f in
+          one-taken (recordAt b i) (bytes-take 32 (drop (32 * i) b) (bytes-drop (32 * i) b h))
+          (omega (arith, length-take 32 (drop (32 * i) b), length-drop (32 * i) b)) i r f in
           let all : rs ≡ r ∷ t = cc in
           rw (all, here, later t refl, ← drop-drop 32 (32 * i) b) (take-append-drop 32 (drop (32 * i) b))
       go (read r) (refused n place) f g q = absurd (refused-read q)
@@ -177,6 +186,10 @@ module _ (b : List ℕ) (h : Bytes b) where
       go : (even : Bool) → eqb (length b % 32) 0 ≡ even → pick even (readAll planRecordOf b) (refused 10 0) ≡ read rs → recordsBytes rs ≡ b
       go true k q = taken-from (length b / 32) 0 rs (omega (arith, eqb-true (length b % 32) 0 k)) q
       go false k q = absurd (refused-read q)
+
+-- bytes are one list of records
+pub records-once : (b : List ℕ) {rs ts : List PlanRecord} → planRecords b ≡ read rs → planRecords b ≡ read ts → rs ≡ ts
+records-once b e f = cc
 
 -- ---- classes, then slots
 

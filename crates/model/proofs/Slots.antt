@@ -81,7 +81,6 @@ module _ (t : Table) (C : ℕ → Doses) (F j : ℕ) where
     pub same-dose : s .dose ≡ u .dose → NoOverlap s u
 
   module _ (v : Runs) where
-    -- the slots of class i
     abbrev ofClass : ℕ → List Slot
     ofClass i = laneSlots (lane t i j) (λ k. share i k j) n
 
@@ -159,7 +158,7 @@ module _ (t : Table) (C : ℕ → Doses) (F j : ℕ) where
 -- ---- an order, its classes, and valid shares
 
 -- no interval of an order starts before an earlier one has ended
-instants-up : (o : Order) (i j : ℕ) → i < j → j < intervalCount o → instantAt o (i + 1) ≤ instantAt o j
+pub instants-up : (o : Order) (i j : ℕ) → i < j → j < intervalCount o → instantAt o (i + 1) ≤ instantAt o j
 instants-up o i zero l q = absurd (omega arith)
 instants-up o i (suc j) l q = elim (last l) [
   | inl e ↦ rw (e, add-one) (omega arith)
@@ -179,17 +178,19 @@ module _ (o : Order) (fit : Fit o) (p : ℕ) (C : ℕ → Doses) (c : Classes (s
   abbrev S : Setting
   S = settingOf o
 
-  abbrev Tb : Table
-  Tb = tableOf o p C x
+  abbrev table : Table
+  table = tableOf o p C x
 
   -- a share is of a dose of the class, where it is active
   open-share : (i k j : ℕ) → i < p → k < S .doses → j < S .intervals → 0 < x i k j → T (C i k && activeAt o k j)
   open-share i k j l q r h = on-some (C i k && activeAt o k j) (S .len j * W S (C i)) (omega (arith, v i l .roomy k j q r))
 
+  -- and every dose is in a class
   every-class : (k : ℕ) → k < S .doses → (i : ℕ) × (i < p) × T (C i k)
   every-class k q = upto-find C p k (all-in S (fansPresent o) p C c k q)
 
-  runs : (j : ℕ) → j < S .intervals → Runs Tb C (o .fans) j
+  -- the order's fans can run the shares of an interval
+  pub runs : (j : ℕ) → j < intervalCount o → Runs (tableOf o p C x) C (o .fans) j
   unfolding openFans
   runs j r = record {
     heavy = λ i l. weighs S (fit .some-grams) (C i) (c .next i l .some);
@@ -213,10 +214,11 @@ module _ (o : Order) (fit : Fit o) (p : ℕ) (C : ℕ → Doses) (c : Classes (s
     pub heavy : 0 < s .grams
     pub named : Named o p C s
 
-  at : (j : ℕ) → j < S .intervals → All (At j) (intervalSlots Tb j)
-  at j r = All-imp (λ s own. go s (own .0) (own .1)) (interval-own Tb C (o .fans) j (runs j r))
+  -- every slot of an interval's part of the list is one
+  at : (j : ℕ) → j < S .intervals → All (At j) (intervalSlots table j)
+  at j r = All-imp (λ s own. go s (own .0) (own .1)) (interval-own table C (o .fans) j (runs j r))
     where
-      go : (s : Slot) (i : ℕ) → Own Tb C (o .fans) j i s → At j s
+      go : (s : Slot) (i : ℕ) → Own table C (o .fans) j i s → At j s
       go s i h =
           let here : InInterval o j s = rw (ends-at j r) at (h .within) in
           let a : T (activeAt o (s .dose) j) = and-right (C i (s .dose)) (activeAt o (s .dose) j) (open-share i (s .dose) j (h .class) (h .dose) r (h .some)) in
@@ -265,13 +267,14 @@ module _ (o : Order) (fit : Fit o) (p : ℕ) (C : ℕ → Doses) (c : Classes (s
         ];
         same-fan = λ e. inl (f .same-fan e);
         same-dose = f .same-dose;
-      }) (at j r) (interval-before Tb C (o .fans) j (runs j r)))
+      }) (at j r) (interval-before table C (o .fans) j (runs j r)))
 
+  -- the slots of a dose in all intervals
   dose-total : (i d : ℕ) → i < p → d < S .doses → T (C i d) → total (unitsOf d) (slotsOf o p C x) ≡ doseAt o d .grams * classP S (fansPresent o) C i
   unfolding tableSlots
   dose-total i d l q t =
       total-gather (unitsOf d) (S .intervals) _
-      ∙ sum-congr (S .intervals) (λ j r. interval-units Tb C (o .fans) j (runs j r) i d l q t)
+      ∙ sum-congr (S .intervals) (λ j r. interval-units table C (o .fans) j (runs j r) i d l q t)
       ∙ v i l .met d q t
 
   -- the slots of valid shares stand
@@ -286,8 +289,8 @@ module _ (o : Order) (fit : Fit o) (p : ℕ) (C : ℕ → Doses) (c : Classes (s
   }
 
   -- at most 31 slots in an interval: one for each dose, and one for each fan but the first
-  pub few-in-interval : (j : ℕ) → j < S .intervals → length (intervalSlots Tb j) ≤ 31
-  few-in-interval j r = omega (arith, interval-few Tb C (o .fans) j (runs j r), fit .few, fit .fans-most)
+  pub few-in-interval : (j : ℕ) → j < intervalCount o → length (intervalSlots (tableOf o p C x) j) ≤ 31
+  few-in-interval j r = omega (arith, interval-few table C (o .fans) j (runs j r), fit .few, fit .fans-most)
 
   -- "1,457 slots"
   pub few-slots : length (slotsOf o p C x) ≤ 1457
@@ -295,8 +298,8 @@ module _ (o : Order) (fit : Fit o) (p : ℕ) (C : ℕ → Doses) (c : Classes (s
   few-slots =
       omega (
         arith,
-        length-gather (S .intervals) (intervalSlots Tb),
-        sum-le (S .intervals) {f = λ j. length (intervalSlots Tb j)} {g = λ j. 31} few-in-interval,
+        length-gather (S .intervals) (intervalSlots table),
+        sum-le (S .intervals) {f = λ j. length (intervalSlots table j)} {g = λ j. 31} few-in-interval,
         sum-const (S .intervals) 31,
         few-intervals o fit,
       )
