@@ -1,3 +1,4 @@
+pub mod CaseTests
 pub mod Sums
 pub mod Sets
 pub mod Fractions
@@ -25,6 +26,8 @@ pub mod Slots
 pub mod Records
 pub mod Plans
 pub mod Planner
+pub mod CaseLaws
+pub mod Cases
 pub mod Windows
 pub mod ValidShares
 pub mod PlanPieces

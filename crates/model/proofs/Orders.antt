@@ -15,7 +15,8 @@ use Rattle.model.proofs.Sets.{and-left, and-right}
 -- ---- a reading that did not refuse
 
 module _ {A : Type 0} where
-  no-refusal : (number place : ℕ) (a : A) → _≡_ {A = Reading A} (refused number place) (read a) → ⊥
+  -- a refusal is no reading
+  pub no-refusal : (number place : ℕ) (a : A) → _≡_ {A = Reading A} (refused number place) (read a) → ⊥
   no-refusal number place a e = let z : _≡_ {A = ℕ} 0 1 = cc in omega arith
 
   -- a test in front held
@@ -123,10 +124,11 @@ pub in-range : (lo hi v : ℕ) → T (within lo hi v) → (lo ≤ v) × (v ≤ h
 in-range lo hi v t = (leb→le lo v (and-left (leb lo v) (leb v hi) t), leb→le v hi (and-right (leb lo v) (leb v hi) t))
 
 -- the parts of a test of four parts
-four : (a b c d : Bool) → T (a && b && c && d) → T a × T b × T c × T d
+pub four : (a b c d : Bool) → T (a && b && c && d) → T a × T b × T c × T d
 four true true true true t = (tt, tt, tt, tt)
 
-three : (a b c : Bool) → T (a && b && c) → T a × T b × T c
+-- and of three
+pub three : (a b c : Bool) → T (a && b && c) → T a × T b × T c
 three true true true t = (tt, tt, tt)
 
 dose-parts : (d : Dose) → T (doseFits d) → (d .release < d .deadline) × (d .deadline ≤ 604800) × (1 ≤ d .grams) × (d .grams ≤ 1000000)

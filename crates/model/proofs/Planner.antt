@@ -12,7 +12,8 @@ use Rattle.model.specs.Lists.{also, none}
 use Rattle.model.specs.Orders.{Order}
 use Rattle.model.specs.Classes.{Classes, P, Row, Setting, W, classP, free, openFans}
 use Rattle.model.specs.Intervals.{fansPresent, instantAt, settingOf}
-use Rattle.model.specs.Plans.{Slot, planRecords, slotsRead}
+use Rattle.model.specs.Records.{read}
+use Rattle.model.specs.Plans.{Slot, planOf, planRecords, slotsRead}
 use Rattle.model.specs.Layout.{classAt, classesOf, slotsOf}
 use Rattle.model.specs.Stands.{Named, SlotsStand, Stands, ends}
 use Rattle.model.specs.Answers.{ValidShares, planBytes, planRoom}
@@ -102,6 +103,12 @@ module _ (o : Order) (fit : Fit o) (p : ℕ) (C : ℕ → Doses) where
     few : p ≤ S .doses
     few = few-classes S (fansPresent o) p C c
 
+    -- the planner's bytes say its classes and slots
+    pub plan-reads : planRecords (planBytes o p C x) ≡ read (planOf (classesOf o p C) (slotsOf o p C x))
+    plan-reads =
+        plan-back (classesOf o p C) (slotsOf o p C x) (All-gather p _ (λ i l. also (narrow-class i (omega (arith, few))) none))
+        (All-imp (narrow-slot few) (laid-stand o fit p C c x v .named))
+
     -- the planner's plan stands
     pub plan-stands : Stands o (planBytes o p C x)
     plan-stands = record {
@@ -109,9 +116,7 @@ module _ (o : Order) (fit : Fit o) (p : ℕ) (C : ℕ → Doses) where
       sets = C;
       classes = c;
       slots = slotsOf o p C x;
-      records =
-          plan-back (classesOf o p C) (slotsOf o p C x) (All-gather p _ (λ i l. also (narrow-class i (omega (arith, few))) none))
-          (All-imp (narrow-slot few) (laid-stand o fit p C c x v .named));
+      records = plan-reads;
       stand = laid-stand o fit p C c x v;
     }
 

@@ -11,3 +11,4 @@ pub mod Stands
 pub mod Line
 pub mod FreePlans
 pub mod Answers
+pub mod Cases

@@ -1,0 +1,185 @@
+-- The rows of the table pass a test that is computed. What the test shows of a row is in Cases.
+use mathlib.Core.Bool.{Bool, true, false, not, _&&_, _||_}
+use mathlib.Core.List.{List, [], _∷_}
+use mathlib.Core.Path.{_≡_, refl}
+use Prim.Native.Nat.{ℕ, zero, suc, _*_}
+use lib.Dec.{T, eqb, leb}
+use lib.ListN.{length, getD}
+use Rattle.model.specs.Sets.{sum, on, Doses, weight}
+use Rattle.model.specs.Records.{Reading, read, refused, pick, numberAt, numberBytes, fieldsAt, blankAt, recordBytes, readFrom}
+use Rattle.model.specs.Orders.{Order, entryOf, fansIn, dosesIn, clashesAny, noClash, orderOf, readOrder}
+use Rattle.model.specs.Classes.{Setting, Row, noDenser, asDense, openFans, P, free, remaining, W}
+use Rattle.model.specs.Intervals.{insert, instants, settingOf, fansPresent}
+use Rattle.model.specs.Shares.{need, room, holds, got, given}
+use Rattle.model.specs.Lists.{gather, total}
+use Rattle.model.specs.Plans.{Class, Slot}
+use Rattle.model.specs.Layout.{cut, line, pieceSlot, laneSlots, intervalSlots, tableSlots, slotsOf, classesOf}
+use Rattle.model.specs.Line.{State, finished, shut, idle, dosing, unitsBefore, timeOf, drawn, fedAt, stateAt, Point, pointAt}
+use Rattle.model.specs.Answers.{Answer, refusal, done, aboveTop, tooFast, week}
+use Rattle.model.specs.Cases.{Case, Drawing, listed, caseSets, cases}
+
+-- ---- tests of all members
+
+-- f holds of every number below n
+unfoldable pub allBelow : ℕ → (ℕ → Bool) → Bool
+allBelow zero f = true
+allBelow (suc n) f = allBelow n f && f n
+
+-- f holds of every member
+unfoldable pub allIn : {A : Type 0} → (A → Bool) → List A → Bool
+allIn f [] = true
+allIn f (a ∷ l) = f a && allIn f l
+
+-- f holds of every set of doses below n, as a list of marks
+unfoldable pub everySet : ℕ → (List Bool → Bool) → Bool
+everySet zero f = f []
+everySet (suc n) f = everySet n (λ marks. f (false ∷ marks)) && everySet n (λ marks. f (true ∷ marks))
+
+abbrev pub marked : List Bool → Doses
+marked marks k = getD marks k false
+
+-- ---- tests of sets and classes
+
+module _ (S : Setting) where
+  open Setting S using (doses, intervals)
+
+  unfoldable pub insideTest : Doses → Doses → Bool
+  insideTest A B = allBelow doses (λ k. not (A k) || B k)
+
+  unfoldable pub someTest : Doses → Bool
+  someTest A = not (allBelow doses (λ k. not (A k)))
+
+  -- B does not keep A from being the next class
+  unfoldable pub givesWay : Row → Doses → Doses → Doses → Bool
+  givesWay row rest A B =
+      not (insideTest B rest) || not (someTest B) || (noDenser S row B A && (not (asDense S row B A) || insideTest B A))
+
+  -- A is the next class
+  unfoldable pub nextTest : Row → Doses → Doses → Bool
+  nextTest row rest A = insideTest A rest && someTest A && everySet doses (λ marks. givesWay row rest A (marked marks))
+
+  -- and no other set is
+  unfoldable pub aloneTest : Row → Doses → Doses → Bool
+  aloneTest row rest A =
+      everySet doses (λ marks. not (nextTest row rest (marked marks)) || (insideTest (marked marks) A && insideTest A (marked marks)))
+
+  -- x are valid shares of A: within the rooms, the intervals full, the needs met
+  unfoldable pub roomTest : Row → Doses → (ℕ → ℕ → ℕ) → ℕ → Bool
+  roomTest row A x k = allBelow intervals (λ j. leb (x k j) (room S row A k j))
+
+  unfoldable pub fullTest : Row → Doses → (ℕ → ℕ → ℕ) → ℕ → Bool
+  fullTest row A x j = eqb (given S row A x j) (holds S row A j)
+
+  unfoldable pub metTest : Row → Doses → (ℕ → ℕ → ℕ) → ℕ → Bool
+  metTest row A x k = not (A k) || eqb (got S row A x k) (need S row A k)
+
+  unfoldable pub validTest : Row → Doses → (ℕ → ℕ → ℕ) → Bool
+  validTest row A x = allBelow doses (roomTest row A x) && allBelow intervals (fullTest row A x) && allBelow doses (metTest row A x)
+
+-- ---- tests of equality
+
+unfoldable pub sameList : {A : Type 0} → (A → A → Bool) → List A → List A → Bool
+sameList same [] [] = true
+sameList same [] (b ∷ bs) = false
+sameList same (a ∷ as′) [] = false
+sameList same (a ∷ as′) (b ∷ bs) = same a b && sameList same as′ bs
+
+unfoldable pub sameClass : Class → Class → Bool
+sameClass a b = eqb (a .number) (b .number) && eqb (a .doses) (b .doses) && eqb (a .grams) (b .grams) && eqb (a .time) (b .time)
+
+unfoldable pub sameSlot : Slot → Slot → Bool
+sameSlot a b =
+    (eqb (a .fan) (b .fan) && eqb (a .dose) (b .dose) && eqb (a .class) (b .class))
+    && (eqb (a .startTick) (b .startTick) && eqb (a .startPart) (b .startPart) && eqb (a .endTick) (b .endTick) && eqb (a .endPart) (b .endPart))
+    && (eqb (a .grams) (b .grams) && eqb (a .time) (b .time))
+
+unfoldable pub sameState : State → State → Bool
+sameState finished finished = true
+sameState finished shut = false
+sameState finished idle = false
+sameState finished (dosing g) = false
+sameState shut finished = false
+sameState shut shut = true
+sameState shut idle = false
+sameState shut (dosing g) = false
+sameState idle finished = false
+sameState idle shut = false
+sameState idle idle = true
+sameState idle (dosing g) = false
+sameState (dosing f) finished = false
+sameState (dosing f) shut = false
+sameState (dosing f) idle = false
+sameState (dosing f) (dosing g) = eqb f g
+
+unfoldable pub samePoint : Point → Point → Bool
+samePoint a b = eqb (a .amount) (b .amount) && sameState (a .state) (b .state)
+
+unfoldable pub sameAnswer : Answer → Answer → Bool
+sameAnswer a b =
+    eqb (a .number) (b .number) && eqb (a .place) (b .place) && (eqb (a .set) (b .set) && eqb (a .grams) (b .grams) && eqb (a .time) (b .time))
+
+unfoldable pub emptyList : {A : Type 0} → List A → Bool
+emptyList [] = true
+emptyList (a ∷ l) = false
+
+-- ---- the test of a row
+
+abbrev pub caseShares : Case → ℕ → ℕ → ℕ → ℕ
+caseShares c i k j = getD (getD (getD (c .shares) i []) k []) j 0
+
+-- nothing was planned
+unfoldable pub nothingTest : Case → Bool
+nothingTest c = emptyList (c .classes) && emptyList (c .slots) && emptyList (c .points)
+
+module _ (o : Order) (c : Case) where
+  -- set i of the row is the next class after those before it, and no other is
+  unfoldable pub classTest : ℕ → Bool
+  classTest i =
+      nextTest (settingOf o) (free (settingOf o) (fansPresent o) (caseSets c) i) (remaining (caseSets c) i) (caseSets c i)
+      && aloneTest (settingOf o) (free (settingOf o) (fansPresent o) (caseSets c) i) (remaining (caseSets c) i) (caseSets c i)
+
+  -- its shares are valid
+  unfoldable pub sharesTest : ℕ → Bool
+  sharesTest i = validTest (settingOf o) (free (settingOf o) (fansPresent o) (caseSets c) i) (caseSets c i) (caseShares c i)
+
+  unfoldable pub pointTest : Drawing → Bool
+  pointTest d =
+      leb (suc (d .dose)) (settingOf o .doses) && leb (d .tick) week && samePoint (pointAt o (c .slots) (d .dose) (d .tick)) (d .point)
+
+  -- refused 9
+  unfoldable pub fastTest : Bool
+  fastTest =
+      eqb (length (c .sets)) 1 && classTest 0 && (aboveTop o (caseSets c 0) && sameAnswer (tooFast o (caseSets c 0)) (c .answer) && nothingTest c)
+
+  -- no dose is left
+  unfoldable pub doneTest : ℕ → Bool
+  doneTest k = not (remaining (caseSets c) (length (c .sets)) k)
+
+  -- the first class, if there is one, is not above the top rate
+  unfoldable pub slowTest : Bool
+  slowTest = emptyList (c .sets) || not (aboveTop o (caseSets c 0))
+
+  -- the records of the plan
+  unfoldable pub recordsTest : Bool
+  recordsTest =
+      sameList sameClass (classesOf o (length (c .sets)) (caseSets c)) (c .classes)
+      && sameList sameSlot (slotsOf o (length (c .sets)) (caseSets c) (caseShares c)) (c .slots)
+
+  -- planned
+  unfoldable pub planTest : Bool
+  planTest =
+      (allBelow (length (c .sets)) classTest && allBelow (settingOf o .doses) doneTest && slowTest)
+      && (allBelow (length (c .sets)) sharesTest && recordsTest) && (allIn pointTest (c .points) && sameAnswer done (c .answer))
+
+unfoldable pub readingTest : Case → Reading Order → Bool
+readingTest c (refused number place) = sameAnswer (refusal number place) (c .answer) && not (eqb number 0) && nothingTest c
+readingTest c (read o) = pick (eqb (c .answer .number) 9) (fastTest o c) (planTest o c)
+
+-- a row passes
+unfoldable pub caseTest : Case → Bool
+caseTest c = readingTest c (readOrder (c .order))
+
+-- every row passes
+pub cases-pass : T (allIn caseTest cases)
+unfolding allBelow allIn everySet insideTest someTest givesWay nextTest aloneTest roomTest fullTest metTest validTest sameList sameClass sameSlot sameState samePoint sameAnswer emptyList nothingTest classTest sharesTest pointTest fastTest doneTest slowTest recordsTest planTest readingTest caseTest sum weight numberAt numberBytes fieldsAt blankAt recordBytes readFrom entryOf fansIn dosesIn clashesAny noClash orderOf readOrder openFans P free remaining insert instants gather total cut line pieceSlot laneSlots intervalSlots tableSlots unitsBefore timeOf drawn fedAt stateAt listed
+cases-pass = tt

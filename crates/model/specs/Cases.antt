@@ -1,0 +1,198 @@
+-- The bench examples that document 01 marks P, as one list of rows and one claim about a row.
+use mathlib.Core.Path.{_≡_}
+use mathlib.Core.Bool.{Bool, false, _||_}
+use mathlib.Core.List.{List, [], _∷_, _++_}
+use Prim.Native.Nat.{ℕ, _+_, _≤_, _<_}
+use lib.Dec.{eqb}
+use lib.ListN.{length, getD}
+use Rattle.model.specs.Sets.{Doses, Sub}
+use Rattle.model.specs.Lists.{All}
+use Rattle.model.specs.Records.{fansParts, doseParts, recordBytes, read}
+use Rattle.model.specs.Orders.{Order, readOrder}
+use Rattle.model.specs.Classes.{free, remaining, NextClass}
+use Rattle.model.specs.Intervals.{settingOf, fansPresent}
+use Rattle.model.specs.Plans.{Class, Slot, planOf, recordsBytes}
+use Rattle.model.specs.Line.{State, finished, shut, idle, dosing, Point}
+use Rattle.model.specs.Answers.{Answer, refusal, done, planRoom, overwritten, Plans, Judges, Draws, Pen, Moves, week}
+
+-- a dose's point at a tick
+pub record Drawing : Type 0 where
+  pub dose : ℕ
+  pub tick : ℕ
+  pub point : Point
+
+-- an order, what comes back, the doses of each class (of the first class, where 9 comes back), their shares by class, dose and
+-- interval, and the plan's classes, slots and points
+pub record Case : Type 0 where
+  pub order : List ℕ
+  pub answer : Answer
+  pub sets : List (List ℕ)
+  pub shares : List (List (List ℕ))
+  pub classes : List Class
+  pub slots : List Slot
+  pub points : List Drawing
+
+-- a list of dose numbers as a set
+unfoldable pub listed : List ℕ → Doses
+listed [] k = false
+listed (d ∷ ds) k = eqb d k || listed ds k
+
+abbrev pub caseSets : Case → ℕ → Doses
+caseSets c i = listed (getD (c .sets) i [])
+
+abbrev pub casePlan : Case → List ℕ
+casePlan c = recordsBytes (planOf (c .classes) (c .slots))
+
+-- drawn at the tick, and by a pen that is moved on to it
+pub record DrawingRight (c : Case) (d : Drawing) : Type 0 where
+  pub draws : Draws (c .order) (casePlan c) (d .dose) (d .tick) (record { answer = done; point = d .point })
+  pub moves : (t : ℕ) → d .tick ≡ t + 1 → Moves (c .order) (casePlan c) (record { dose = d .dose; tick = t })
+      (record { answer = done; point = d .point }) (record { dose = d .dose; tick = d .tick })
+
+-- the claim: planning into any buffer that is large enough gives the row's answer, classes and slots; no other sets are the
+-- classes; the plan is judged and drawn as the row says
+pub record Right (c : Case) : Type 0 where
+  pub plans : (before : List ℕ) → planRoom ≤ length before
+      → Plans (c .order) before (record { answer = c .answer; classes = length (c .classes); slots = length (c .slots) }) (overwritten before (casePlan c))
+  pub alone : (o : Order) → readOrder (c .order) ≡ read o → (i : ℕ) → i < length (c .sets) → (A : Doses)
+      → NextClass (settingOf o) (free (settingOf o) (fansPresent o) (caseSets c) i) (remaining (caseSets c) i) A
+      → Sub (settingOf o .doses) A (caseSets c i) × Sub (settingOf o .doses) (caseSets c i) A
+  pub judged : Judges (c .order) (casePlan c) (c .answer)
+  pub points : All (DrawingRight c) (c .points)
+
+-- ---- the rows
+
+-- F: fans, top grams, top seconds; D: bay, release, deadline, grams
+abbrev F : ℕ → ℕ → ℕ → List ℕ
+F fans grams seconds = recordBytes fansParts (0x46 ∷ fans ∷ grams ∷ seconds ∷ [])
+
+abbrev D : ℕ → ℕ → ℕ → ℕ → List ℕ
+D bay release deadline grams = recordBytes doseParts (0x44 ∷ bay ∷ release ∷ deadline ∷ grams ∷ [])
+
+-- number, doses, W, P
+abbrev class : ℕ → ℕ → ℕ → ℕ → Class
+class number doses grams time = record { number = number; doses = doses; grams = grams; time = time }
+
+-- fan, dose, start tick and part, end tick and part, W, P, class
+abbrev slot : ℕ → ℕ → ℕ → ℕ → ℕ → ℕ → ℕ → ℕ → ℕ → Slot
+slot fan dose start part end endpart grams time number = record {
+  fan = fan;
+  dose = dose;
+  startTick = start;
+  startPart = part;
+  endTick = end;
+  endPart = endpart;
+  grams = grams;
+  time = time;
+  class = number;
+}
+
+-- dose, tick, amount, state
+abbrev drawing : ℕ → ℕ → ℕ → State → Drawing
+drawing dose tick amount state = record { dose = dose; tick = tick; point = record { amount = amount; state = state } }
+
+abbrev refusedCase : List ℕ → ℕ → ℕ → Case
+refusedCase order number place =
+    record { order = order; answer = refusal number place; sets = []; shares = []; classes = []; slots = []; points = [] }
+
+-- refused 9 for a first class: its doses, the set as a number, W, P
+abbrev fastCase : List ℕ → List ℕ → ℕ → ℕ → ℕ → Case
+fastCase order doses set grams time = record {
+  order = order;
+  answer = record { number = 9; place = 0; set = set; grams = grams; time = time };
+  sets = doses ∷ [];
+  shares = [];
+  classes = [];
+  slots = [];
+  points = [];
+}
+
+-- P1's doses and plan, under any top rate
+abbrev oneFan : ℕ → ℕ → Case
+oneFan topGrams topSeconds = record {
+  order = F 1 topGrams topSeconds ++ D 1 0 10 20 ++ D 2 0 4 16;
+  answer = done;
+  sets = (1 ∷ []) ∷ (0 ∷ []) ∷ [];
+  shares = ([] ∷ (64 ∷ 0 ∷ []) ∷ []) ∷ ((0 ∷ 120 ∷ []) ∷ []) ∷ [];
+  classes = class 1 1 16 4 ∷ class 2 1 20 6 ∷ [];
+  slots = slot 1 1 0 0 4 0 16 4 1 ∷ slot 1 0 4 0 10 0 20 6 2 ∷ [];
+  points = drawing 0 4 0 (dosing 1) ∷ drawing 0 5 3 (dosing 1) ∷ drawing 0 6 6 (dosing 1) ∷ drawing 0 7 10 (dosing 1) ∷ drawing 0 10 20 finished ∷ [];
+}
+
+-- "Doses as [release, deadline) grams, numbered from 0, each its own bay, top 1000/1 unless said."
+abbrev pub cases : List Case
+cases =
+    -- P1: one fan; [0,10) 20, [0,4) 16
+    oneFan 1000 1
+    -- P2: two fans; three of [0,3) 10
+    ∷ record {
+      order = F 2 1000 1 ++ D 1 0 3 10 ++ D 2 0 3 10 ++ D 3 0 3 10;
+      answer = done;
+      sets = (0 ∷ 1 ∷ 2 ∷ []) ∷ [];
+      shares = ((60 ∷ []) ∷ (60 ∷ []) ∷ (60 ∷ []) ∷ []) ∷ [];
+      classes = class 1 3 30 6 ∷ [];
+      slots = slot 1 0 0 0 2 0 30 6 1 ∷ slot 1 1 2 0 3 0 30 6 1 ∷ slot 2 1 0 0 1 0 30 6 1 ∷ slot 2 2 1 0 3 0 30 6 1 ∷ [];
+      points = drawing 1 0 0 (dosing 2) ∷ drawing 1 1 5 idle ∷ drawing 1 2 5 (dosing 1) ∷ drawing 1 3 10 finished ∷ [];
+    }
+    -- P3: one fan; [0,1) 1 and [0,1) 2. "dose 0 from 0 to 1/3, dose 1 from 1/3 to 1"
+    ∷ record {
+      order = F 1 1000 1 ++ D 1 0 1 1 ++ D 2 0 1 2;
+      answer = done;
+      sets = (0 ∷ 1 ∷ []) ∷ [];
+      shares = ((1 ∷ []) ∷ (2 ∷ []) ∷ []) ∷ [];
+      classes = class 1 2 3 1 ∷ [];
+      slots = slot 1 0 0 0 0 1 3 1 1 ∷ slot 1 1 0 1 1 0 3 1 1 ∷ [];
+      points = drawing 0 0 0 (dosing 1) ∷ drawing 1 0 0 idle ∷ drawing 1 1 2 finished ∷ [];
+    }
+    -- P4: one fan; [0,2) 4, [2,4) 4
+    ∷ record {
+      order = F 1 1000 1 ++ D 1 0 2 4 ++ D 2 2 4 4;
+      answer = done;
+      sets = (0 ∷ 1 ∷ []) ∷ [];
+      shares = ((16 ∷ 0 ∷ []) ∷ (0 ∷ 16 ∷ []) ∷ []) ∷ [];
+      classes = class 1 2 8 4 ∷ [];
+      slots = slot 1 0 0 0 2 0 8 4 1 ∷ slot 1 1 2 0 4 0 8 4 1 ∷ [];
+      points = drawing 1 1 0 shut ∷ drawing 1 3 2 (dosing 1) ∷ [];
+    }
+    -- P5: two fans; [0,5) 10 alone
+    ∷ record {
+      order = F 2 1000 1 ++ D 1 0 5 10;
+      answer = done;
+      sets = (0 ∷ []) ∷ [];
+      shares = ((50 ∷ []) ∷ []) ∷ [];
+      classes = class 1 1 10 5 ∷ [];
+      slots = slot 1 0 0 0 5 0 10 5 1 ∷ [];
+      points = drawing 0 604800 10 finished ∷ [];
+    }
+    -- P6: two fans; [0,2) 8, [0,4) 4. "dose 1 on fan 2, then fan 1"
+    ∷ record {
+      order = F 2 1000 1 ++ D 1 0 2 8 ++ D 2 0 4 4;
+      answer = done;
+      sets = (0 ∷ []) ∷ (1 ∷ []) ∷ [];
+      shares = ((16 ∷ 0 ∷ []) ∷ []) ∷ ([] ∷ (8 ∷ 8 ∷ []) ∷ []) ∷ [];
+      classes = class 1 1 8 2 ∷ class 2 1 4 4 ∷ [];
+      slots = slot 1 0 0 0 2 0 8 2 1 ∷ slot 2 1 0 0 2 0 4 4 2 ∷ slot 1 1 2 0 4 0 4 4 2 ∷ [];
+      points = drawing 1 1 1 (dosing 2) ∷ drawing 1 2 2 (dosing 1) ∷ [];
+    }
+    -- P7: P1 with top 4/1 accepted
+    ∷ oneFan 4 1
+    -- P8: top 3/1 refused 9, set 2, 16, 4
+    ∷ fastCase (F 1 3 1 ++ D 1 0 10 20 ++ D 2 0 4 16) (1 ∷ []) 2 16 4
+    -- P9: one fan; [0,3) 10, top 33333/10000 refused 9, set 1, 10, 3
+    ∷ fastCase (F 1 33333 10000 ++ D 1 0 3 10) (0 ∷ []) 1 10 3
+    -- P10: F alone: accepted, 0 classes
+    ∷ record { order = F 1 1000 1; answer = done; sets = []; shares = []; classes = []; slots = []; points = [] }
+    -- P11: no bytes: 6
+    ∷ refusedCase [] 6 0
+    -- P12: one fan, one bay, 10 grams each, F first: [0,4) and [4,8) accepted; [0,4) and [3,8) refused 8, place 2
+    ∷ record {
+      order = F 1 1000 1 ++ D 1 0 4 10 ++ D 1 4 8 10;
+      answer = done;
+      sets = (0 ∷ 1 ∷ []) ∷ [];
+      shares = ((80 ∷ 0 ∷ []) ∷ (0 ∷ 80 ∷ []) ∷ []) ∷ [];
+      classes = class 1 2 20 8 ∷ [];
+      slots = slot 1 0 0 0 4 0 20 8 1 ∷ slot 1 1 4 0 8 0 20 8 1 ∷ [];
+      points = drawing 0 4 10 finished ∷ [];
+    }
+    ∷ refusedCase (F 1 1000 1 ++ D 1 0 4 10 ++ D 1 3 8 10) 8 2
+    ∷ []
