@@ -28,3 +28,13 @@ pub mod Plans
 pub mod Planner
 pub mod CaseLaws
 pub mod Cases
+pub mod Windows
+pub mod ValidShares
+pub mod PlanPieces
+pub mod Judging
+pub mod FreePieces
+pub mod DrawnLine
+pub mod Standing
+pub mod Refusing
+pub mod Demand2
+pub mod Demand3
