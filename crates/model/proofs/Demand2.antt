@@ -22,6 +22,7 @@ use Rattle.model.proofs.Planner.{plan-stands}
 use Rattle.model.proofs.ValidShares.{classes-of, shares-of}
 use Rattle.model.proofs.FreePieces.{none-above}
 use Rattle.model.proofs.Standing.{plan-line, slot-named, slot-rate, slots-apart}
+use Rattle.model.proofs.Bays.{bays-apart}
 use Rattle.model.proofs.Refusing.{above-none, free-or-above, refused-names}
 
 module _ (order : List ℕ) (o : Order) (e : readOrder order ≡ read o) where
@@ -94,3 +95,8 @@ module _ (order : List ℕ) (o : Order) (e : readOrder order ≡ read o) where
     pub never-in-two-slots : (q x i i′ : ℕ) (u : Slot) → i < i′ → i′ < length slots → Covers q x (getD slots i u) → Covers q x (getD slots i′ u)
         → (getD slots i u .fan ≡ getD slots i′ u .fan → ⊥) × (getD slots i u .dose ≡ getD slots i′ u .dose → ⊥)
     never-in-two-slots = slots-apart o plan st
+
+    -- and so no bay: "A bay has one inlet, so one fan at a time feeds it"
+    pub one-fan-at-a-bay : (q x i i′ : ℕ) (u : Slot) → i < i′ → i′ < length slots → Covers q x (getD slots i u) → Covers q x (getD slots i′ u)
+        → doseAt o (getD slots i u .dose) .bay ≡ doseAt o (getD slots i′ u .dose) .bay → ⊥
+    one-fan-at-a-bay = bays-apart o plan st (read-fits order o e)

@@ -32,12 +32,11 @@ module _ (S : Setting) (F : Row) (p p′ : ℕ) (C C′ : ℕ → Doses) (c : Cl
   same-rate l i k lp ip kn t t′ =
       let count : p ≡ p′ = count-unique S F p p′ C C′ c c′ in
       let sets : (h : ℕ) → h < p → Alike (S .doses) (C h) (C′ h) = λ h q. classes-unique S F p p′ C C′ c c′ h q (omega arith) in
-      let same : l ≡ i = one-class S F p′ C′ c′ l i k (omega arith) ip kn (rw (sets l lp k kn) at t) t′ in
-      (
+      let same : l ≡ i = one-class S F p′ C′ c′ l i k (omega arith) ip kn (rw (sets l lp k kn) at t) t′ in (
         weight-alike (S .doses) (S .grams) (C l) (C′ l) (sets l lp) ∙ ap (λ (l : ℕ). W S (C′ l)) same,
         P-alike S (free S F C l) (C l) (C′ l) (sets l lp)
-        ∙ ap (λ (row : Row). P S row (C′ l)) (fun-ext (free-alike S F C C′ l (λ h q. sets h (omega arith))))
-        ∙ ap (λ (l : ℕ). classP S F C′ l) same,
+            ∙ ap (λ (row : Row). P S row (C′ l)) (fun-ext (free-alike S F C C′ l (λ h q. sets h (omega arith))))
+            ∙ ap (λ (l : ℕ). classP S F C′ l) same,
       )
 
 -- ---- two slots at one moment
