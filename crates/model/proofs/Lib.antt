@@ -36,6 +36,7 @@ pub mod FreePieces
 pub mod DrawnLine
 pub mod Standing
 pub mod Refusing
+pub mod SplitSlot
 pub mod Bays
 pub mod Demand2
 pub mod Demand3

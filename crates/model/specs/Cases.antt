@@ -74,7 +74,7 @@ abbrev class : ℕ → ℕ → ℕ → ℕ → Class
 class number doses grams time = record { number = number; doses = doses; grams = grams; time = time }
 
 -- fan, dose, start tick and part, end tick and part, W, P, class
-abbrev slot : ℕ → ℕ → ℕ → ℕ → ℕ → ℕ → ℕ → ℕ → ℕ → Slot
+abbrev pub slot : ℕ → ℕ → ℕ → ℕ → ℕ → ℕ → ℕ → ℕ → ℕ → Slot
 slot fan dose start part end endpart grams time number = record {
   fan = fan;
   dose = dose;
@@ -108,7 +108,7 @@ fastCase order doses set grams time = record {
 }
 
 -- P1's doses and plan, under any top rate
-abbrev oneFan : ℕ → ℕ → Case
+abbrev pub oneFan : ℕ → ℕ → Case
 oneFan topGrams topSeconds = record {
   order = F 1 topGrams topSeconds ++ D 1 0 10 20 ++ D 2 0 4 16;
   answer = done;
