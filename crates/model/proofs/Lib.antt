@@ -36,5 +36,6 @@ pub mod FreePieces
 pub mod DrawnLine
 pub mod Standing
 pub mod Refusing
+pub mod Planning
 pub mod Demand2
 pub mod Demand3
