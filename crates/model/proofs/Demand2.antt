@@ -40,10 +40,10 @@ one-sequence o p p′ C C′ c c′ =
     let count : p ≡ p′ = count-unique (settingOf o) (fansPresent o) p p′ C C′ c c′ in
     (count, λ i l. classes-unique (settingOf o) (fansPresent o) p p′ C C′ c c′ i l (omega arith))
 
--- every slot of a plan that stands has the W and P of its dose's class
+-- every slot of a plan that stands has the number, the W and the P of its dose's class
 pub slots-have-the-rates : (o : Order) (plan : List ℕ) → Stands o plan → (p : ℕ) (C : ℕ → Doses) → Classes (settingOf o) (fansPresent o) p C
-    → (s : Slot) → OneOf (slotsRead (planRecords plan)) s → (i : ℕ) → i < p → T (C i (s .dose))
-    → (s .grams ≡ W (settingOf o) (C i)) × (s .time ≡ classP (settingOf o) (fansPresent o) C i)
+    → (s : Slot) → OneOf (slotsRead (planRecords plan)) s
+    → (i : ℕ) × (i < p) × T (C i (s .dose)) × (s .class ≡ i + 1) × (s .grams ≡ W (settingOf o) (C i)) × (s .time ≡ classP (settingOf o) (fansPresent o) C i)
 slots-have-the-rates = slot-rate
 
 -- ---- "The slots deliver each dose exactly, inside its window, no fan and no dose in two slots at one moment."

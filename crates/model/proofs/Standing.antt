@@ -2,7 +2,7 @@
 use mathlib.Core.Logic.{inl, inr}
 use mathlib.Core.Path.{_∙_, _≡_, ap, fun-ext, subst}
 use mathlib.Core.List.{List}
-use Prim.Native.Nat.{ℕ, _*_, _≤_, _<_}
+use Prim.Native.Nat.{ℕ, _+_, _*_, _≤_, _<_}
 use native.Mathlib.Nat.{mul-le-mul-left, mul-lt-mul-of-pos-left}
 use native.Mathlib.Omega.{arith}
 use lib.Dec.{T}
@@ -26,17 +26,25 @@ use Rattle.model.proofs.DrawnLine.{InClass, Line, class-of, dose-rate, 
 -- ---- one sequence of classes
 
 module _ (S : Setting) (F : Row) (p p′ : ℕ) (C C′ : ℕ → Doses) (c : Classes S F p C) (c′ : Classes S F p′ C′) where
-  -- a dose's class has one W and one P, whichever sequence of classes names it
+  same-count : p ≡ p′
+  same-count = count-unique S F p p′ C C′ c c′
+
+  same-sets : (l : ℕ) → l < p → Alike (S .doses) (C l) (C′ l)
+  same-sets l lp = classes-unique S F p p′ C C′ c c′ l lp (omega (arith, same-count))
+
+  -- a dose is in the same class in both
+  pub same-member : (l k : ℕ) → l < p → k < S .doses → T (C l k) → (l < p′) × T (C′ l k)
+  same-member l k lp kn t = (omega (arith, same-count), rw (same-sets l lp k kn) at t)
+
+  -- which has one W and one P
   pub same-rate : (l i k : ℕ) → l < p → i < p′ → k < S .doses → T (C l k) → T (C′ i k) → (W S (C l) ≡ W S (C′ i)) × (classP S F C l ≡ classP S F C′ i)
   same-rate l i k lp ip kn t t′ =
-      let count : p ≡ p′ = count-unique S F p p′ C C′ c c′ in
-      let sets : (h : ℕ) → h < p → Alike (S .doses) (C h) (C′ h) = λ h q. classes-unique S F p p′ C C′ c c′ h q (omega arith) in
-      let same : l ≡ i = one-class S F p′ C′ c′ l i k (omega arith) ip kn (rw (sets l lp k kn) at t) t′ in
-      (
-        weight-alike (S .doses) (S .grams) (C l) (C′ l) (sets l lp) ∙ ap (λ (l : ℕ). W S (C′ l)) same,
-        P-alike S (free S F C l) (C l) (C′ l) (sets l lp)
-        ∙ ap (λ (row : Row). P S row (C′ l)) (fun-ext (free-alike S F C C′ l (λ h q. sets h (omega arith))))
-        ∙ ap (λ (l : ℕ). classP S F C′ l) same,
+      let m = same-member l k lp kn t in
+      let same : l ≡ i = one-class S F p′ C′ c′ l i k (m .0) ip kn (m .1) t′ in (
+        weight-alike (S .doses) (S .grams) (C l) (C′ l) (same-sets l lp) ∙ ap (λ (l : ℕ). W S (C′ l)) same,
+        P-alike S (free S F C l) (C l) (C′ l) (same-sets l lp)
+            ∙ ap (λ (row : Row). P S row (C′ l)) (fun-ext (free-alike S F C C′ l (λ h q. same-sets h (omega arith))))
+            ∙ ap (λ (l : ℕ). classP S F C′ l) same,
       )
 
 -- ---- two slots at one moment
@@ -59,13 +67,14 @@ module _ (o : Order) (plan : List ℕ) (st : Stands o plan) where
   pub slot-named : (s : Slot) → OneOf slots s → Named o (st .count) (st .sets) s
   slot-named s one = subst (λ (s : Slot). Named o (st .count) (st .sets) s) (one .there noSlot) (All-at noSlot (stand .named) (one .index) (one .listed))
 
-  -- with the W and P of its dose's class
-  pub slot-rate : (p : ℕ) (C : ℕ → Doses) → Classes S (fansPresent o) p C → (s : Slot) → OneOf slots s → (i : ℕ) → i < p → T (C i (s .dose))
-      → (s .grams ≡ W S (C i)) × (s .time ≡ classP S (fansPresent o) C i)
-  slot-rate p C c s one i ip t =
+  -- with the number, the W and the P of its dose's class
+  pub slot-rate : (p : ℕ) (C : ℕ → Doses) → Classes S (fansPresent o) p C → (s : Slot) → OneOf slots s
+      → (i : ℕ) × (i < p) × T (C i (s .dose)) × (s .class ≡ i + 1) × (s .grams ≡ W S (C i)) × (s .time ≡ classP S (fansPresent o) C i)
+  slot-rate p C c s one =
       let n = slot-named s one in
-      let r = same-rate S (fansPresent o) (st .count) p (st .sets) C (st .classes) c (n .class) i (s .dose) (n .known) ip (n .dose) (n .member) t in
-      (n .grams ∙ r .0, n .time ∙ r .1)
+      let m = same-member S (fansPresent o) (st .count) p (st .sets) C (st .classes) c (n .class) (s .dose) (n .known) (n .dose) (n .member) in
+      let r = same-rate S (fansPresent o) (st .count) p (st .sets) C (st .classes) c (n .class) (n .class) (s .dose) (n .known) (m .0) (n .dose) (n .member) (m .1) in
+      (n .class, m .0, m .1, n .number, n .grams ∙ r .0, n .time ∙ r .1)
 
   -- two slots at one moment have two fans and two doses
   pub slots-apart : (q x i i′ : ℕ) (u : Slot) → i < i′ → i′ < length slots → Covers q x (getD slots i u) → Covers q x (getD slots i′ u)
