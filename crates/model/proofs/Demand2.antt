@@ -22,6 +22,7 @@ use Rattle.model.proofs.Orders.{read-fits}
 use Rattle.model.proofs.ValidShares.{class-open, classes-of}
 use Rattle.model.proofs.FreePieces.{none-above}
 use Rattle.model.proofs.Standing.{plan-line, slot-named, slot-rate, slots-apart}
+use Rattle.model.proofs.Bays.{bays-apart}
 use Rattle.model.proofs.Refusing.{above-none, free-or-above, refused-names}
 use Rattle.model.proofs.Planning.{accepted-plan, planned}
 
@@ -65,6 +66,13 @@ pub never-in-two-slots : (o : Order) (plan : List ℕ) → Stands o plan → (q 
     → (getD (slotsRead (planRecords plan)) i u .fan ≡ getD (slotsRead (planRecords plan)) i′ u .fan → ⊥)
     × (getD (slotsRead (planRecords plan)) i u .dose ≡ getD (slotsRead (planRecords plan)) i′ u .dose → ⊥)
 never-in-two-slots = slots-apart
+
+-- and so no bay: "A bay has one inlet, so one fan at a time feeds it"
+pub one-fan-at-a-bay : (order : List ℕ) (o : Order) → readOrder order ≡ read o → (plan : List ℕ) → Stands o plan
+    → (q x i i′ : ℕ) (u : Slot) → i < i′ → i′ < length (slotsRead (planRecords plan))
+    → Covers q x (getD (slotsRead (planRecords plan)) i u) → Covers q x (getD (slotsRead (planRecords plan)) i′ u)
+    → doseAt o (getD (slotsRead (planRecords plan)) i u .dose) .bay ≡ doseAt o (getD (slotsRead (planRecords plan)) i′ u .dose) .bay → ⊥
+one-fan-at-a-bay order o e plan st = bays-apart o plan st (read-fits order o e)
 
 -- ---- "An order with no other fault is refused for the top rate exactly if no plan within that rate exists, and the set that shows it is named."
 

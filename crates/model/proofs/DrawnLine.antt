@@ -53,8 +53,8 @@ pub record Line (o : Order) (slots : List Slot) (d : ℕ) : Type 0 where
   pub early : (t : ℕ) → t ≤ doseAt o d .release → unitsBefore slots d t ≡ 0
   pub late : (t : ℕ) → doseAt o d .deadline ≤ t → unitsBefore slots d t ≡ total (unitsOf d) slots
 
--- dose d is in class l
-pub record InClass (o : Order) (p : ℕ) (C : ℕ → Doses) (d : ℕ) : Type 0 where
+-- the class of dose d
+pub record InClass (p : ℕ) (C : ℕ → Doses) (d : ℕ) : Type 0 where
   pub class : ℕ
   pub known : class < p
   pub member : T (C class d)
@@ -96,12 +96,12 @@ module _ (o : Order) (fit : Fit o) (p : ℕ) (C : ℕ → Doses) (c : Classes (s
   nest = nested S F p C c p (omega arith)
 
   -- every dose has a class
-  pub class-of : (d : ℕ) → d < S .doses → InClass o p C d
+  pub class-of : (d : ℕ) → d < S .doses → InClass p C d
   class-of d l = let r = upto-find C p d (all-in S F p C c d l) in record { class = r .0; known = r .1; member = r .2 }
 
   -- ---- a dose of class l
 
-  module _ (d : ℕ) (dn : d < S .doses) (m : InClass o p C d) where
+  module _ (d : ℕ) (dn : d < S .doses) (m : InClass p C d) where
     abbrev l : ℕ
     l = m .class
 

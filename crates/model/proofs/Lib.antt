@@ -37,5 +37,6 @@ pub mod DrawnLine
 pub mod Standing
 pub mod Refusing
 pub mod Planning
+pub mod Bays
 pub mod Demand2
 pub mod Demand3

@@ -92,7 +92,7 @@ module _ (o : Order) (plan : List ℕ) (st : Stands o plan) where
   -- ---- a dose
 
   module _ (fit : Fit o) (d : ℕ) (dn : d < S .doses) where
-    own : InClass o (st .count) (st .sets) d
+    own : InClass (st .count) (st .sets) d
     own = class-of o fit (st .count) (st .sets) (st .classes) slots stand d dn
 
     -- its line
