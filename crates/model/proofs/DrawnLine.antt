@@ -3,7 +3,7 @@ use mathlib.Core.Bool.{Bool, false, true}
 use mathlib.Core.Logic.{_⊎_, inl, inr}
 use mathlib.Core.Path.{_∙_, _≡_, ap, refl, subst, sym}
 use mathlib.Core.List.{List, [], _∷_}
-use Prim.Native.Nat.{ℕ, zero, suc, _+_, _*_, _-_, _≤_, _<_, min}
+use Prim.Native.Nat.{ℕ, zero, suc, _+_, _*_, _-_, _≤_, _<_}
 use native.Mathlib.Nat.{eq-of-mul-eq-mul-left, le-of-mul-le-mul-left, mul-le-mul-left, mul-le-mul-right, mul-lt-mul-of-pos-left, mul-pos}
 use native.Mathlib.Numerals.{add-one}
 use native.Mathlib.Omega.{arith}
@@ -17,11 +17,11 @@ use Rattle.model.specs.Orders.{Order, doseAt}
 use Rattle.model.specs.Classes.{Classes, Row, Setting, W, classP}
 use Rattle.model.specs.Intervals.{fansPresent, instantAt, settingOf}
 use Rattle.model.specs.Plans.{Slot}
-use Rattle.model.specs.Stands.{Named, SlotsStand, ends, starts, unitsOf}
-use Rattle.model.specs.Line.{Covers, HasFan, OneOf, RunsAt, gramsOf, timeOf, unitsBefore}
+use Rattle.model.specs.Stands.{SlotsStand, ends, starts, unitsOf}
+use Rattle.model.specs.Line.{HasFan, OneOf, RunsAt, gramsOf, timeOf, unitsBefore}
 use Rattle.model.proofs.Sums.{sum-congr}
 use Rattle.model.proofs.FanTime.{weighs}
-use Rattle.model.proofs.Sequence.{Nested, all-in, nested, one-class, upto-find}
+use Rattle.model.proofs.Sequence.{Nested, all-in, nested, upto-find}
 use Rattle.model.proofs.Moments.{InInterval, Pieces, Runs, runs-at}
 use Rattle.model.proofs.Amounts.{ran, ran-after, ran-before, ran-up, units-slow}
 use Rattle.model.proofs.Waiting.{Exact, waiting}
@@ -53,8 +53,8 @@ pub record Line (o : Order) (slots : List Slot) (d : ℕ) : Type 0 where
   pub early : (t : ℕ) → t ≤ doseAt o d .release → unitsBefore slots d t ≡ 0
   pub late : (t : ℕ) → doseAt o d .deadline ≤ t → unitsBefore slots d t ≡ total (unitsOf d) slots
 
--- dose d is in class l
-pub record InClass (o : Order) (p : ℕ) (C : ℕ → Doses) (d : ℕ) : Type 0 where
+-- the class of dose d
+pub record InClass (p : ℕ) (C : ℕ → Doses) (d : ℕ) : Type 0 where
   pub class : ℕ
   pub known : class < p
   pub member : T (C class d)
@@ -96,12 +96,12 @@ module _ (o : Order) (fit : Fit o) (p : ℕ) (C : ℕ → Doses) (c : Classes (s
   nest = nested S F p C c p (omega arith)
 
   -- every dose has a class
-  pub class-of : (d : ℕ) → d < S .doses → InClass o p C d
+  pub class-of : (d : ℕ) → d < S .doses → InClass p C d
   class-of d l = let r = upto-find C p d (all-in S F p C c d l) in record { class = r .0; known = r .1; member = r .2 }
 
   -- ---- a dose of class l
 
-  module _ (d : ℕ) (dn : d < S .doses) (m : InClass o p C d) where
+  module _ (d : ℕ) (dn : d < S .doses) (m : InClass p C d) where
     abbrev l : ℕ
     l = m .class
 

@@ -1,12 +1,12 @@
 -- Judging needs no search: sets with falling rates whose slots meet the clauses of "A plan stands" are the order's classes.
 use mathlib.Core.Path.{_≡_, subst, sym}
 use mathlib.Core.List.{List}
-use Prim.Native.Nat.{ℕ, _<_}
+use Prim.Native.Nat.{ℕ}
 use native.Mathlib.Omega.{arith}
 use Rattle.model.specs.Sets.{Doses}
 use Rattle.model.specs.Records.{read}
 use Rattle.model.specs.Orders.{Order}
-use Rattle.model.specs.Classes.{Classes, Row, W}
+use Rattle.model.specs.Classes.{Classes, Row}
 use Rattle.model.specs.Intervals.{fansPresent, settingOf}
 use Rattle.model.specs.Plans.{Slot, planOf, planRecords}
 use Rattle.model.specs.Layout.{classesOf}

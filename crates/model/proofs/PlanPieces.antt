@@ -1,14 +1,14 @@
 -- The slots of a plan as pieces of fan time on a grid on which every slot starts and ends: they run where they may, and each dose has its time.
 use mathlib.Core.Bool.{Bool, false, true}
-use mathlib.Core.Logic.{_⊎_, inl, inr}
+use mathlib.Core.Logic.{inl, inr}
 use mathlib.Core.Path.{_∙_, _≡_, ap, fun-ext, refl, sym}
-use mathlib.Core.List.{List, [], _∷_}
-use Prim.Native.Nat.{ℕ, zero, suc, _+_, _*_, _-_, _≤_, _<_, min}
-use native.Mathlib.Nat.{le-of-lt, le-of-mul-le-mul-left, lt-of-mul-lt-mul-left, min-eq-left, min-eq-right, mul-le-mul-left, mul-lt-mul-of-pos-left, mul-pos, mul-sub}
+use mathlib.Core.List.{List}
+use Prim.Native.Nat.{ℕ, suc, _+_, _*_, _-_, _≤_, _<_, min}
+use native.Mathlib.Nat.{le-of-lt, le-of-mul-le-mul-left, lt-of-mul-lt-mul-left, min-eq-left, min-eq-right, mul-le-mul-left, mul-pos, mul-sub}
 use native.Mathlib.Numerals.{add-one}
 use native.Mathlib.Omega.{arith}
 use borrow.Author.Tests.{eqb-true}
-use lib.Dec.{T, eqb, eqb-refl, eqb→eq, leb, leb→le, le→leb, ltb, ltb→lt, lt→ltb}
+use lib.Dec.{T, eqb, eqb-refl, eqb→eq, leb, leb→le, ltb, ltb→lt}
 use lib.ListN.{length, getD}
 use Rattle.model.specs.Sets.{Doses, on, weight}
 use Rattle.model.specs.Lists.{total}
@@ -19,7 +19,7 @@ use Rattle.model.specs.Plans.{Slot}
 use Rattle.model.specs.Stands.{EndsBy, Named, NoOverlap, SlotsStand, ends, starts, unitsOf}
 use Rattle.model.specs.Line.{Covers, unitsBefore}
 use Rattle.model.proofs.Sums.{sum-congr, sum-scale}
-use Rattle.model.proofs.Sets.{and-both, and-left, and-right, same-test, size-all}
+use Rattle.model.proofs.Sets.{and-left, and-right, same-test, size-all}
 use Rattle.model.proofs.Fractions.{compare≤, pos-left}
 use Rattle.model.proofs.Sequence.{Nested, nested-one}
 use Rattle.model.proofs.Cells.{cover}
@@ -52,6 +52,7 @@ crew-all o = fun-ext (λ j. size-all (o .fans))
 abbrev pub noSlot : Slot
 noSlot = record { fan = 0; dose = 0; startTick = 0; startPart = 0; endTick = 0; endPart = 0; grams = 0; time = 0; class = 0 }
 
+-- slot i
 abbrev pub slotAt : List Slot → ℕ → Slot
 slotAt slots i = getD slots i noSlot
 
@@ -118,24 +119,26 @@ module _ (o : Order) (p : ℕ) (C : ℕ → Doses) (q : ℕ) where
   class-grid l h = omega (arith, ap (λ (y : ℕ). q * y) (others-times p Wl l h))
 
   module _ (some : (l : ℕ) → l < p → 0 < Wl l) (pos : 0 < q) where
-    -- the grid has cells
+    -- 1/q tick has cells
     pub cells-pos : 0 < cells
     cells-pos = product-pos p Wl some
 
+    -- and a tick has some
     pub grid-pos : 0 < grid
     grid-pos = mul-pos pos cells-pos
 
-    -- and so has a unit
+    -- and so has a unit of a class
     pub unit-pos : (l : ℕ) → l < p → 0 < unit l
     unit-pos l h = pos-left 0 (unit l) (Wl l) (omega (arith, class-grid l h, grid-pos))
 
   -- ---- one slot
 
   module _ (s : Slot) (n : Named o p C s) where
-    -- it is on the grid of its class
+    -- its units are those of its class
     pub scale-class : scale s ≡ unit (n .class)
     scale-class = ap (λ (c : ℕ). unit c) (omega (arith, n .number))
 
+    -- W of them to the tick
     pub slot-grid : scale s * s .grams ≡ grid
     slot-grid = rw (scale-class, n .grams) (omega (arith, class-grid (n .class) (n .known)))
 
@@ -155,13 +158,6 @@ module _ (o : Order) (p : ℕ) (C : ℕ → Doses) (q : ℕ) where
       others-pos = pos-left 0 (others p Wl (s .class - 1)) (s .grams) (omega (arith, others-grid, product-pos p Wl some))
 
       -- it covers the moment x/q where it has the cell
-      pub covers-cell : (x : ℕ) → Covers q x s → T (cover (starts s * scale s) (ends s * scale s) (x * cells))
-      covers-cell x c =
-          let k = others p Wl (s .class - 1) in
-          and-both (leb (starts s * scale s) (x * cells)) (ltb (x * cells) (ends s * scale s))
-          (le→leb (starts s * scale s) (x * cells) (omega (arith, mul-le-mul-left k (c .from), ap (λ (y : ℕ). x * y) others-grid)))
-          (lt→ltb (x * cells) (ends s * scale s) (omega (arith, mul-lt-mul-of-pos-left (c .after) others-pos, ap (λ (y : ℕ). x * y) others-grid)))
-
       pub cell-covers : (x : ℕ) → T (cover (starts s * scale s) (ends s * scale s) (x * cells)) → Covers q x s
       cell-covers x t =
           let k = others p Wl (s .class - 1) in

@@ -1,14 +1,13 @@
 -- Refusal 9 and free plans: an order that is read has a plan within the top rate, or a first class above it.
-use mathlib.Core.Bool.{true}
 use mathlib.Core.Logic.{_⊎_, inl, inr}
 use mathlib.Core.Path.{_≡_, refl, subst}
 use mathlib.Core.List.{List}
-use Prim.Native.Nat.{ℕ, _*_, _≤_, _<_}
+use Prim.Native.Nat.{ℕ, _*_, _<_}
 use native.Mathlib.Nat.{eq-zero-or-pos}
 use native.Mathlib.Omega.{arith}
 use lib.Dec.{T, lt→ltb, ltb→lt}
 use Rattle.model.specs.Sets.{Doses}
-use Rattle.model.specs.Records.{Reading, read, refused}
+use Rattle.model.specs.Records.{read}
 use Rattle.model.specs.Orders.{Order, readOrder}
 use Rattle.model.specs.Classes.{Classes, P, W, free, remaining}
 use Rattle.model.specs.Intervals.{fansPresent, settingOf}

@@ -1,12 +1,12 @@
 -- Every order that fits has its classes, and every class has valid shares.
 use mathlib.Core.Bool.{true}
 use mathlib.Core.Logic.{inl, inr}
-use mathlib.Core.Path.{_∙_, _≡_, sym}
-use Prim.Native.Nat.{ℕ, _*_, _-_, _≤_, _<_}
+use mathlib.Core.Path.{_∙_, _≡_}
+use Prim.Native.Nat.{ℕ, _*_, _≤_, _<_}
 use native.Mathlib.Nat.{eq-zero-or-pos}
 use native.Mathlib.Omega.{arith}
 use lib.Dec.{T}
-use Rattle.model.specs.Sets.{Doses, sum, weight}
+use Rattle.model.specs.Sets.{Doses, sum}
 use Rattle.model.specs.Orders.{Order}
 use Rattle.model.specs.Classes.{Classes, NextClass, P, Row, Setting, W, classP, free, openFans}
 use Rattle.model.specs.Intervals.{fansPresent, settingOf}

@@ -1,8 +1,7 @@
 -- Windows and intervals of an order: a moment inside a dose's window lies in an interval where the dose is active, so every set of doses has open fan time.
-use mathlib.Core.Bool.{_&&_}
 use mathlib.Core.Logic.{inl, inr}
 use mathlib.Core.Path.{_≡_, ap}
-use Prim.Native.Nat.{ℕ, zero, suc, _+_, _*_, _-_, _≤_, _<_}
+use Prim.Native.Nat.{ℕ, zero, suc, _+_, _*_, _≤_, _<_}
 use native.Mathlib.Nat.{eq-or-lt-of-le, mul-le-mul-left, mul-pos}
 use native.Mathlib.Numerals.{add-one}
 use native.Mathlib.Omega.{arith}
@@ -12,7 +11,7 @@ use Rattle.model.specs.Sets.{Doses, Nonempty, on}
 use Rattle.model.specs.Orders.{Order, doseAt}
 use Rattle.model.specs.Classes.{P, openFans}
 use Rattle.model.specs.Intervals.{activeAt, fansPresent, instantAt, instants, intervalCount, settingOf}
-use Rattle.model.proofs.Sums.{le-sum, last}
+use Rattle.model.proofs.Sums.{le-sum}
 use Rattle.model.proofs.Sets.{and-both, le-weight, on-yes}
 use Rattle.model.proofs.FanTime.{Heavy}
 use Rattle.model.proofs.Fractions.{compare≤}
