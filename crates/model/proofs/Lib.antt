@@ -1,4 +1,3 @@
-pub mod CaseTests
 pub mod Sums
 pub mod Sets
 pub mod Fractions
