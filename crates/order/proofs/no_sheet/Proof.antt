@@ -1,0 +1,17 @@
+use Rattle.order.specs.Sheets.{noSheet}
+use borrow.Author.Needs.{needs}
+use Rattle.order.proofs.no_sheet.Statement.{statement}
+use Rattle.order.proofs.no_sheet.Tie as tie
+use Rattle.order.proofs.no_sheet.Reads as reads
+use Rattle.order.proofs.no_sheet.Lts as lts
+use Rattle.order.proofs.no_order.Reads as no-order-reads
+
+no-order-requires : tie.Need-no-order-requires
+no-order-requires c κs = search needs
+
+returns : tie.Need-returns
+unfolding noSheet
+returns c = cc
+
+pub no-sheet-spec : {M : Type 1} → statement M
+no-sheet-spec = tie.close (tie.spec no-order-requires returns)
