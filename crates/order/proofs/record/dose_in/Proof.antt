@@ -1,11 +1,7 @@
 use Rattle.model.specs.Records.{fieldsAt}
 use borrow.Author.Needs.{needs}
-use Rattle.order.proofs.dose_in.Statement.{statement}
-use Rattle.order.proofs.dose_in.Tie as tie
-use Rattle.order.proofs.dose_in.Reads as reads
-use Rattle.order.proofs.dose_in.Lts as lts
-use Rattle.field.proofs.read16.Reads as read16-reads
-use Rattle.field.proofs.read32.Reads as read32-reads
+use Rattle.order.proofs.record.dose_in.Statement.{statement}
+use Rattle.order.proofs.record.dose_in.Tie as tie
 
 read16-requires : tie.Need-read16-requires
 read16-requires c κs = search needs

@@ -1,10 +1,7 @@
 use Rattle.order.proofs.Cases.{was-off, was-on, and-off, and-on}
 use borrow.Author.Needs.{needs}
-use Rattle.order.proofs.fans_fit.Statement.{statement}
-use Rattle.order.proofs.fans_fit.Tie as tie
-use Rattle.order.proofs.fans_fit.Reads as reads
-use Rattle.order.proofs.fans_fit.Lts as lts
-use Rattle.order.proofs.inside.Reads as inside-reads
+use Rattle.order.proofs.record.fans_fit.Statement.{statement}
+use Rattle.order.proofs.record.fans_fit.Tie as tie
 
 inside-requires : tie.Need-inside-requires
 inside-requires c κs = search needs

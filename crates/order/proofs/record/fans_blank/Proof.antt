@@ -3,11 +3,8 @@ use mathlib.Core.Bool.{and-true}
 use Rattle.model.specs.Records.{blankAt}
 use Rattle.order.proofs.Cases.{was-off, was-on, and-off, and-on}
 use borrow.Author.Needs.{needs}
-use Rattle.order.proofs.fans_blank.Statement.{statement}
-use Rattle.order.proofs.fans_blank.Tie as tie
-use Rattle.order.proofs.fans_blank.Reads as reads
-use Rattle.order.proofs.fans_blank.Lts as lts
-use Rattle.field.proofs.blank.Reads as blank-reads
+use Rattle.order.proofs.record.fans_blank.Statement.{statement}
+use Rattle.order.proofs.record.fans_blank.Tie as tie
 
 blank-requires : tie.Need-blank-requires
 blank-requires c κs = search needs

@@ -4,12 +4,8 @@ use Rattle.model.specs.Orders.{entryOf}
 use Rattle.order.specs.Held.{heldEntry}
 use Rattle.order.proofs.Cases.{at-off, at-on}
 use borrow.Author.Needs.{needs}
-use Rattle.order.proofs.record_at.Statement.{statement}
-use Rattle.order.proofs.record_at.Tie as tie
-use Rattle.order.proofs.record_at.Reads as reads
-use Rattle.order.proofs.record_at.Lts as lts
-use Rattle.order.proofs.dose_entry.Reads as dose-entry-reads
-use Rattle.order.proofs.fans_entry.Reads as fans-entry-reads
+use Rattle.order.proofs.record.record_at.Statement.{statement}
+use Rattle.order.proofs.record.record_at.Tie as tie
 
 shared-slice-read-kind : tie.Need-shared-slice-read-kind
 shared-slice-read-kind c = search needs

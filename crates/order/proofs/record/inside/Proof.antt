@@ -1,8 +1,6 @@
 use borrow.Author.Tests.{le-leb, lt-leb}
-use Rattle.order.proofs.inside.Statement.{statement}
-use Rattle.order.proofs.inside.Tie as tie
-use Rattle.order.proofs.inside.Reads as reads
-use Rattle.order.proofs.inside.Lts as lts
+use Rattle.order.proofs.record.inside.Statement.{statement}
+use Rattle.order.proofs.record.inside.Tie as tie
 
 returns : tie.Need-returns
 returns c = simp (le-leb _ _ (c .if1 .taken))

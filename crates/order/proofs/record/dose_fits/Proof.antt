@@ -2,11 +2,8 @@ use mathlib.Core.Path.{sym}
 use borrow.Author.Tests.{le-leb, lt-leb}
 use Rattle.order.proofs.Cases.{was-off, was-on, and-off, and-on}
 use borrow.Author.Needs.{needs}
-use Rattle.order.proofs.dose_fits.Statement.{statement}
-use Rattle.order.proofs.dose_fits.Tie as tie
-use Rattle.order.proofs.dose_fits.Reads as reads
-use Rattle.order.proofs.dose_fits.Lts as lts
-use Rattle.order.proofs.inside.Reads as inside-reads
+use Rattle.order.proofs.record.dose_fits.Statement.{statement}
+use Rattle.order.proofs.record.dose_fits.Tie as tie
 
 inside-requires : tie.Need-inside-requires
 inside-requires c κs = search needs

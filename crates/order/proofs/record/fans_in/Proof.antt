@@ -1,11 +1,7 @@
 use Rattle.model.specs.Records.{fieldsAt}
 use borrow.Author.Needs.{needs}
-use Rattle.order.proofs.fans_in.Statement.{statement}
-use Rattle.order.proofs.fans_in.Tie as tie
-use Rattle.order.proofs.fans_in.Reads as reads
-use Rattle.order.proofs.fans_in.Lts as lts
-use Rattle.field.proofs.read32.Reads as read32-reads
-use Rattle.field.proofs.read8.Reads as read8-reads
+use Rattle.order.proofs.record.fans_in.Statement.{statement}
+use Rattle.order.proofs.record.fans_in.Tie as tie
 
 read8-requires : tie.Need-read8-requires
 read8-requires c κs = search needs
