@@ -1,0 +1,5 @@
+pub mod Cases
+pub mod Laws
+pub mod Takes
+pub mod Walks
+pub mod Settles
