@@ -19,7 +19,7 @@ use Rattle.model.specs.Plans.{Class, Slot}
 use Rattle.model.specs.Line.{State, finished, shut, idle, dosing, Point}
 use Rattle.model.specs.Answers.{Answer}
 use Rattle.model.proofs.Orders.{three, four}
-use Rattle.model.proofs.CaseTests.{allBelow, allIn, everySet, marked, insideTest, someTest, givesWay, nextTest, aloneTest, roomTest, fullTest, metTest, validTest, sameList, sameClass, sameSlot, sameState, samePoint, sameAnswer, emptyList}
+use Rattle.model.specs.CaseTests.{allBelow, allIn, everySet, marked, insideTest, someTest, givesWay, nextTest, aloneTest, roomTest, fullTest, metTest, validTest, sameList, sameClass, sameSlot, sameState, samePoint, sameAnswer, emptyList}
 
 -- ---- what the tests of all members show
 

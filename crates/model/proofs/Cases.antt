@@ -25,7 +25,7 @@ use Rattle.model.proofs.Orders.{Fit, three, no-refusal, read-fits}
 use Rattle.model.proofs.Lists.{length-singles}
 use Rattle.model.proofs.Planner.{plan-stands, plan-reads}
 use Rattle.model.proofs.Plans.{slots-read}
-use Rattle.model.proofs.CaseTests.{allBelow, allIn, caseTest, readingTest, nothingTest, classTest, nextTest, aloneTest, sharesTest, pointTest, samePoint, fastTest, doneTest, slowTest, recordsTest, planTest, caseShares, emptyList, sameAnswer, sameList, sameClass, sameSlot, cases-pass}
+use Rattle.model.specs.CaseTests.{allBelow, allIn, caseTest, readingTest, nothingTest, classTest, nextTest, aloneTest, sharesTest, pointTest, samePoint, fastTest, doneTest, slowTest, recordsTest, planTest, caseShares, emptyList, sameAnswer, sameList, sameClass, sameSlot, cases-pass}
 use Rattle.model.proofs.CaseLaws.{all-below, next, alone, valid, same-list, same-class, same-slot, same-point, same-answer, empty-list}
 
 -- ---- a row that is refused

@@ -1,4 +1,3 @@
-pub mod CaseTests
 pub mod Sums
 pub mod Sets
 pub mod Fractions
@@ -28,3 +27,16 @@ pub mod Plans
 pub mod Planner
 pub mod CaseLaws
 pub mod Cases
+pub mod Windows
+pub mod ValidShares
+pub mod PlanPieces
+pub mod Judging
+pub mod FreePieces
+pub mod DrawnLine
+pub mod Standing
+pub mod Refusing
+pub mod SplitSlot
+pub mod Planning
+pub mod Bays
+pub mod Demand2
+pub mod Demand3

@@ -3,10 +3,9 @@ use mathlib.Core.Bool.{not}
 use mathlib.Core.Logic.{inl, inr}
 use mathlib.Core.Path.{_≡_, fun-ext, refl}
 use Prim.Native.Nat.{_*_, _+_, _<_, _≤_, ℕ}
-use native.Mathlib.Nat.{eq-or-lt-of-le, eq-zero-or-pos}
+use native.Mathlib.Nat.{eq-or-lt-of-le, eq-zero-or-pos, le-antisymm}
 use native.Mathlib.Omega.{arith}
-use borrow.Author.Tests.{eq-eqb}
-use lib.Dec.{T-not, leb→le, le→leb, eqb→eq}
+use lib.Dec.{T-not, leb→le, le→leb}
 use Rattle.model.specs.Sets.{Doses, Nonempty, Sub}
 use Rattle.model.specs.Classes.{NextClass, P, Row, Setting, W}
 use Rattle.model.proofs.Sets.{Alike, Apart, _∖_, _∪_, alike, alike-back, alike-sub, and-left, and-right, or-elim, or-left, or-right, weight-alike, weight-union}
@@ -22,7 +21,7 @@ module _ (S : Setting) where
 
     -- and one that is as dense lies in it
     pub as-dense : NextClass S row rest A → (B : Doses) → Sub n B rest → Nonempty n B → W S B * P S row A ≡ W S A * P S row B → Sub n B A
-    as-dense a B h w e = a .largest B h w (rw (eq-eqb (W S B * P S row A) (W S A * P S row B) e) tt)
+    as-dense a B h w e = a .largest B h w (omega (arith, le→leb))
 
     -- these make the next class
     pub next-class : Sub n A rest → Nonempty n A → ((B : Doses) → Sub n B rest → Nonempty n B → W S B * P S row A ≤ W S A * P S row B)
@@ -31,7 +30,7 @@ module _ (S : Setting) where
       within = sub;
       some = some;
       greatest = λ B h w. le→leb (W S B * P S row A) (W S A * P S row B) (dense B h w);
-      largest = λ B h w t. most B h w (eqb→eq (W S B * P S row A) (W S A * P S row B) t);
+      largest = λ B h w t. most B h w (le-antisymm (dense B h w) (leb→le _ _ t));
     }
 
   -- one next class for one row of fans and one set of remaining doses

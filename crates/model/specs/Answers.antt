@@ -25,6 +25,7 @@ pub record Answer : Type 0 where
   pub grams : ℕ
   pub time : ℕ
 
+-- a refusal with its place
 abbrev pub refusal : ℕ → ℕ → Answer
 refusal number place = record { number = number; place = place; set = 0; grams = 0; time = 0 }
 
@@ -97,6 +98,7 @@ pub data Plans (order before : List ℕ) : Planned → List ℕ → Type 0 where
 
 -- ---- judging: "checks 2 to 9 in the same order, then 10"
 
+-- judging plan bytes for an order
 pub data Judges (order plan : List ℕ) : Answer → Type 0 where
   refuses : (a : Answer) → Refuses order a → Judges order plan a
   falls : (o : Order) → Accepts order o → (Stands o plan → ⊥) → Judges order plan (refusal 10 0)
@@ -109,6 +111,7 @@ pub record Drawn : Type 0 where
   pub answer : Answer
   pub point : Point
 
+-- no point comes with a refusal
 abbrev pub noPoint : Answer → Drawn
 noPoint a = record { answer = a; point = record { amount = 0; state = shut } }
 
@@ -120,6 +123,7 @@ week = 604800
 abbrev pub pointOf : Order → List ℕ → ℕ → ℕ → Drawn
 pointOf o plan d t = record { answer = done; point = pointAt o (slotsRead (planRecords plan)) d t }
 
+-- drawing dose d at tick t, 11 "no such dose", 12 "tick over 604,800"
 pub data Draws (order plan : List ℕ) (d t : ℕ) : Drawn → Type 0 where
   refuses : (a : Answer) → Judges order plan a → a .number ≢ 0 → Draws order plan d t (noPoint a)
   no-dose : (o : Order) → Accepts order o → Stands o plan → settingOf o .doses ≤ d → Draws order plan d t (noPoint (refusal 11 0))
@@ -128,6 +132,7 @@ pub data Draws (order plan : List ℕ) (d t : ℕ) : Drawn → Type 0 where
 
 -- ---- the pen: "it holds a dose and a tick, and its answer is the point at the new tick"
 
+-- a pen
 pub record Pen : Type 0 where
   pub dose : ℕ
   pub tick : ℕ

@@ -37,9 +37,11 @@ unfoldable pub listed : List ℕ → Doses
 listed [] k = false
 listed (d ∷ ds) k = eqb d k || listed ds k
 
+-- the sets of a row
 abbrev pub caseSets : Case → ℕ → Doses
 caseSets c i = listed (getD (c .sets) i [])
 
+-- the plan bytes of a row
 abbrev pub casePlan : Case → List ℕ
 casePlan c = recordsBytes (planOf (c .classes) (c .slots))
 
@@ -62,10 +64,11 @@ pub record Right (c : Case) : Type 0 where
 
 -- ---- the rows
 
--- F: fans, top grams, top seconds; D: bay, release, deadline, grams
+-- an F record
 abbrev F : ℕ → ℕ → ℕ → List ℕ
 F fans grams seconds = recordBytes fansParts (0x46 ∷ fans ∷ grams ∷ seconds ∷ [])
 
+-- a D record
 abbrev D : ℕ → ℕ → ℕ → ℕ → List ℕ
 D bay release deadline grams = recordBytes doseParts (0x44 ∷ bay ∷ release ∷ deadline ∷ grams ∷ [])
 
@@ -74,7 +77,7 @@ abbrev class : ℕ → ℕ → ℕ → ℕ → Class
 class number doses grams time = record { number = number; doses = doses; grams = grams; time = time }
 
 -- fan, dose, start tick and part, end tick and part, W, P, class
-abbrev slot : ℕ → ℕ → ℕ → ℕ → ℕ → ℕ → ℕ → ℕ → ℕ → Slot
+abbrev pub slot : ℕ → ℕ → ℕ → ℕ → ℕ → ℕ → ℕ → ℕ → ℕ → Slot
 slot fan dose start part end endpart grams time number = record {
   fan = fan;
   dose = dose;
@@ -91,6 +94,7 @@ slot fan dose start part end endpart grams time number = record {
 abbrev drawing : ℕ → ℕ → ℕ → State → Drawing
 drawing dose tick amount state = record { dose = dose; tick = tick; point = record { amount = amount; state = state } }
 
+-- an order that is refused by its reading
 abbrev refusedCase : List ℕ → ℕ → ℕ → Case
 refusedCase order number place =
     record { order = order; answer = refusal number place; sets = []; shares = []; classes = []; slots = []; points = [] }
@@ -108,7 +112,7 @@ fastCase order doses set grams time = record {
 }
 
 -- P1's doses and plan, under any top rate
-abbrev oneFan : ℕ → ℕ → Case
+abbrev pub oneFan : ℕ → ℕ → Case
 oneFan topGrams topSeconds = record {
   order = F 1 topGrams topSeconds ++ D 1 0 10 20 ++ D 2 0 4 16;
   answer = done;

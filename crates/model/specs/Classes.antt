@@ -1,7 +1,7 @@
 -- From doses to classes (document 01, "From doses to classes").
 use mathlib.Core.Bool.{Bool, true, not, _&&_}
 use Prim.Native.Nat.{ℕ, zero, suc, _+_, _*_, _-_, _^_, _<_, min}
-use lib.Dec.{T, leb, eqb}
+use lib.Dec.{T, leb}
 use Rattle.model.specs.Sets.{sum, on, Doses, weight, Sub, Nonempty}
 
 -- what the classes are worked out from: doses and intervals by number, which dose is active where, lengths, grams
@@ -44,9 +44,9 @@ module _ (S : Setting) where
   abbrev pub noDenser : Row → Doses → Doses → Bool
   noDenser row B A = leb (W B * P row A) (W A * P row B)
 
-  -- and here it is that of A
+  -- and here it is at least that of A: of no denser sets, the equals
   abbrev pub asDense : Row → Doses → Doses → Bool
-  asDense row B A = eqb (W B * P row A) (W A * P row B)
+  asDense row B A = leb (W A * P row B) (W B * P row A)
 
   -- "The next class is the set with the greatest W/P among nonempty sets of remaining doses; among equals, the one that
   -- contains all others."

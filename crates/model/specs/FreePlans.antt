@@ -18,6 +18,7 @@ pub record FreeSlot : Type 0 where
   pub end : ℕ
   pub rate : ℕ
 
+-- two slots do not overlap
 abbrev pub FreeNoOverlap : FreeSlot → FreeSlot → Type 0
 FreeNoOverlap s u = (s .end ≤ u .start) ⊎ (u .end ≤ s .start)
 
@@ -31,6 +32,7 @@ pub record FreeNamed (o : Order) (q r : ℕ) (s : FreeSlot) : Type 0 where
   pub closed : s .end ≤ q * doseAt o (s .dose) .deadline
   pub slow : s .rate * o .topSeconds ≤ o .topGrams * r
 
+-- slots that deliver every dose
 pub record FreePlan (o : Order) : Type 0 where
   pub q : ℕ
   pub r : ℕ

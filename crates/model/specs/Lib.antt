@@ -12,3 +12,4 @@ pub mod Line
 pub mod FreePlans
 pub mod Answers
 pub mod Cases
+pub mod CaseTests

@@ -16,11 +16,12 @@ use Rattle.model.specs.Stands.{starts, ends}
 unfoldable pub unitsBefore : List Slot → ℕ → ℕ → ℕ
 unitsBefore slots d t = total (λ s. on (eqb d (s .dose)) (min (ends s) (t * s .grams) - starts s)) slots
 
--- the W and the P that the slots of dose d name: those of the first; its rate is W/P
+-- the W that the slots of dose d name, as the first has it; the rate of the dose is W/P
 unfoldable pub gramsOf : List Slot → ℕ → ℕ
 gramsOf [] d = 0
 gramsOf (s ∷ slots) d = pick (eqb d (s .dose)) (s .grams) (gramsOf slots d)
 
+-- and the P
 unfoldable pub timeOf : List Slot → ℕ → ℕ
 timeOf [] d = 0
 timeOf (s ∷ slots) d = pick (eqb d (s .dose)) (s .time) (timeOf slots d)
@@ -51,6 +52,7 @@ pub record Point : Type 0 where
   pub amount : ℕ
   pub state : State
 
+-- the point of dose d at tick t
 abbrev pub pointAt : Order → List Slot → ℕ → ℕ → Point
 pointAt o slots d t = record { amount = drawn slots d t; state = stateAt o slots d t }
 

@@ -6,11 +6,13 @@ use lib.Dec.{eqb, leb}
 use lib.ListN.{length, getD}
 use Rattle.model.specs.Records.{pick, within, Reading, read, refused, andThen, fansParts, doseParts, blankAt, fieldOf, readAll}
 
+-- the fields of an F record
 pub record Fans : Type 0 where
   pub fans : ℕ
   pub topGrams : ℕ
   pub topSeconds : ℕ
 
+-- the fields of a D record
 pub record Dose : Type 0 where
   pub bay : ℕ
   pub release : ℕ
@@ -34,13 +36,16 @@ doseAt o k = getD (o .doses) k noDose
 
 -- ---- one record
 
+-- what a record of an order says
 pub data Entry : Type 0 where
   fansEntry : Fans → Entry
   doseEntry : Dose → Entry
 
+-- the fields of an F record, from its bytes; field 0 is the kind
 abbrev pub fansOf : List ℕ → Fans
 fansOf r = record { fans = fieldOf fansParts r 1; topGrams = fieldOf fansParts r 2; topSeconds = fieldOf fansParts r 3 }
 
+-- the fields of a D record, from its bytes
 abbrev pub doseOf : List ℕ → Dose
 doseOf r = record { bay = fieldOf doseParts r 1; release = fieldOf doseParts r 2; deadline = fieldOf doseParts r 3; grams = fieldOf doseParts r 4 }
 
@@ -65,11 +70,13 @@ entryOf r i =
 
 -- ---- all records
 
+-- the F records among them
 unfoldable pub fansIn : List Entry → List Fans
 fansIn [] = []
 fansIn (fansEntry f ∷ es) = f ∷ fansIn es
 fansIn (doseEntry d ∷ es) = fansIn es
 
+-- the D records: "Dose number = count of D records before it."
 unfoldable pub dosesIn : List Entry → List Dose
 dosesIn [] = []
 dosesIn (fansEntry f ∷ es) = dosesIn es
@@ -83,6 +90,7 @@ apart rest x y = leb (x .deadline + rest) (y .release) || leb (y .deadline + res
 abbrev pub clash : Dose → Dose → Bool
 clash x y = eqb (x .bay) (y .bay) && not (apart 0 x y)
 
+-- a dose clashes with one of these
 unfoldable pub clashesAny : Dose → List Dose → Bool
 clashesAny d [] = false
 clashesAny d (e ∷ es) = clash d e || clashesAny d es

@@ -6,13 +6,14 @@ use lib.Dec.{eqb}
 use lib.ListN.{length, getD}
 use Rattle.model.specs.Records.{pick, Reading, read, refused, classParts, slotParts, blankAt, fieldOf, recordBytes, readAll}
 
+-- the fields of a C record: class number, doses in it, W, P
 pub record Class : Type 0 where
   pub number : ℕ
   pub doses : ℕ
   pub grams : ℕ
   pub time : ℕ
 
--- a slot's W and P are its grams and its time: the rate is the one divided by the other
+-- the fields of an S record; W and P are its grams and its time, and its rate is the one divided by the other
 pub record Slot : Type 0 where
   pub fan : ℕ
   pub dose : ℕ
@@ -24,15 +25,18 @@ pub record Slot : Type 0 where
   pub time : ℕ
   pub class : ℕ
 
+-- what a record of a plan says
 pub data PlanRecord : Type 0 where
   classRecord : Class → PlanRecord
   slotRecord : Slot → PlanRecord
 
 -- ---- reading
 
+-- the fields of a C record, from its bytes; field 0 is the kind
 abbrev pub classOf : List ℕ → Class
 classOf r = record { number = fieldOf classParts r 1; doses = fieldOf classParts r 2; grams = fieldOf classParts r 3; time = fieldOf classParts r 4 }
 
+-- the fields of an S record, from its bytes
 abbrev pub slotOf : List ℕ → Slot
 slotOf r = record {
   fan = fieldOf slotParts r 1;
@@ -56,6 +60,7 @@ planRecordOf r i =
 unfoldable pub planRecords : List ℕ → Reading (List PlanRecord)
 planRecords bytes = pick (eqb (length bytes % 32) 0) (readAll planRecordOf bytes) (refused 10 0)
 
+-- the slots among them
 unfoldable pub slotsIn : List PlanRecord → List Slot
 slotsIn [] = []
 slotsIn (classRecord c ∷ rs) = slotsIn rs
@@ -68,11 +73,13 @@ slotsRead (refused number place) = []
 
 -- ---- writing
 
+-- the 32 bytes of a record of a plan
 unfoldable pub planRecordBytes : PlanRecord → List ℕ
 planRecordBytes (classRecord c) = recordBytes classParts (0x43 ∷ c .number ∷ c .doses ∷ c .grams ∷ c .time ∷ [])
 planRecordBytes (slotRecord s) =
     recordBytes slotParts (0x53 ∷ s .fan ∷ s .dose ∷ s .startTick ∷ s .startPart ∷ s .endTick ∷ s .endPart ∷ s .grams ∷ s .time ∷ s .class ∷ [])
 
+-- the bytes of records in a row
 unfoldable pub recordsBytes : List PlanRecord → List ℕ
 recordsBytes [] = []
 recordsBytes (r ∷ rs) = planRecordBytes r ++ recordsBytes rs

@@ -13,6 +13,7 @@ abbrev pub on : Bool → ℕ → ℕ
 on true x = x
 on false x = 0
 
+-- a set of doses
 abbrev pub Doses : Type 0
 Doses = ℕ → Bool
 

@@ -22,10 +22,11 @@ module _ (S : Setting) (row : Row) (A : Doses) where
   holds j = openFans S row A j * (len j * W S A)
 
   module _ (x : ℕ → ℕ → ℕ) where
-    -- what dose k has in all intervals, and what it is short of its need
+    -- what dose k has in all intervals
     abbrev pub got : ℕ → ℕ
     got k = sum intervals (λ j. x k j)
 
+    -- the units that dose k is short of its need
     abbrev pub short : ℕ → ℕ
     short k = need k - got k
 

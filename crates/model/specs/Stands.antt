@@ -17,6 +17,7 @@ use Rattle.model.specs.Layout.{classesOf}
 abbrev pub starts : Slot → ℕ
 starts s = s .startTick * s .grams + s .startPart
 
+-- and where it ends
 abbrev pub ends : Slot → ℕ
 ends s = s .endTick * s .grams + s .endPart
 

@@ -1,0 +1,138 @@
+-- A plan that stands and is not the planner's: P1's, with the slot of dose 0 cut in two at second 5. It is drawn as the planner's is,
+-- while rounding slot by slot would lose a gram of it.
+use mathlib.Core.Path.{_≡_, refl}
+use mathlib.Core.Logic.{inl}
+use mathlib.Core.List.{List, [], _∷_}
+use Prim.Native.Nat.{ℕ, zero, suc, _*_, _≤_, _<_}
+use native.Mathlib.Omega.{arith}
+use lib.Dec.{T}
+use Rattle.model.specs.Sets.{Doses, sum, weight}
+use Rattle.model.specs.Lists.{total, All, none, also, Pairs, lone, then}
+use Rattle.model.specs.Orders.{Order, doseAt}
+use Rattle.model.specs.Classes.{P, openFans, free, classP}
+use Rattle.model.specs.Intervals.{insert, instants, settingOf, fansPresent}
+use Rattle.model.specs.Plans.{Slot}
+use Rattle.model.specs.Stands.{Named, InInterval, InOrder, by-interval, by-start, EndsBy, SlotsStand, unitsOf}
+use Rattle.model.specs.Line.{unitsBefore, timeOf, drawn}
+use Rattle.model.specs.Cases.{listed, oneFan, caseSets, slot}
+use Rattle.model.proofs.Lists.{Pairs-imp}
+
+-- P1's order
+abbrev o : Order
+o = record {
+  fans = 1;
+  topGrams = 1000;
+  topSeconds = 1;
+  doses = record { bay = 1; release = 0; deadline = 10; grams = 20 } ∷ record { bay = 2; release = 0; deadline = 4; grams = 16 } ∷ [];
+}
+
+abbrev C : ℕ → Doses
+C = caseSets (oneFan 1000 1)
+
+abbrev before : Slot
+before = slot 1 1 0 0 4 0 16 4 1
+
+abbrev early : Slot
+early = slot 1 0 4 0 5 0 20 6 2
+
+abbrev late : Slot
+late = slot 1 0 5 0 10 0 20 6 2
+
+abbrev pub split : List Slot
+split = before ∷ early ∷ late ∷ []
+
+-- dose 0 has all its grams at its deadline
+pub split-drawn : drawn split 0 10 ≡ 20
+unfolding drawn unitsBefore total timeOf
+split-drawn = refl
+
+-- any part of dose 0's time behind dose 1
+of-dose-0 : (from to : ℕ) → 4 ≤ from → from < to → to ≤ 10 → Named o 2 C (slot 1 0 from 0 to 0 20 6 2)
+unfolding weight sum P openFans free insert instants listed
+of-dose-0 from to l long h = record {
+  dose = omega arith;
+  class = 1;
+  number = refl;
+  known = omega arith;
+  member = tt;
+  grams = refl;
+  time = refl;
+  fan-from = omega arith;
+  fan-to = omega arith;
+  start-part = omega arith;
+  end-part = omega arith;
+  long = omega arith;
+  window = record { low = omega arith; high = omega arith };
+  interval = 1;
+  in-order = omega arith;
+  in-interval = record { low = omega arith; high = omega arith };
+}
+
+of-dose-1 : Named o 2 C before
+unfolding weight sum P openFans free insert instants listed
+of-dose-1 = record {
+  dose = omega arith;
+  class = 0;
+  number = refl;
+  known = omega arith;
+  member = tt;
+  grams = refl;
+  time = refl;
+  fan-from = omega arith;
+  fan-to = omega arith;
+  start-part = omega arith;
+  end-part = omega arith;
+  long = omega arith;
+  window = record { low = omega arith; high = omega arith };
+  interval = 0;
+  in-order = omega arith;
+  in-interval = record { low = omega arith; high = omega arith };
+}
+
+in-turn : Pairs (InOrder o) split
+unfolding insert instants
+in-turn =
+    then (also (by-interval 0 1 (omega arith) first second) (also (by-interval 0 1 (omega arith) first third) none))
+    (then (also (by-start 1 second third refl (omega arith)) none) (then none lone))
+  where
+    first : InInterval o 0 before
+    first = record { low = omega arith; high = omega arith }
+
+    second : InInterval o 1 early
+    second = record { low = omega arith; high = omega arith }
+
+    third : InInterval o 1 late
+    third = record { low = omega arith; high = omega arith }
+
+-- each ends by the start of the next
+apart : Pairs EndsBy split
+apart = then (also one (also two none)) (then (also three none) (then none lone))
+  where
+    one : EndsBy before early
+    one = record { by = omega arith }
+
+    two : EndsBy before late
+    two = record { by = omega arith }
+
+    three : EndsBy early late
+    three = record { by = omega arith }
+
+totals : (i d : ℕ) → i < 2 → d < 2 → T (C i d) → total (unitsOf d) split ≡ doseAt o d .grams * classP (settingOf o) (fansPresent o) C i
+unfolding weight sum P openFans free insert instants listed total
+totals zero zero l h t = absurd t
+totals zero (suc zero) l h t = refl
+totals zero (suc (suc d)) l h t = absurd (omega arith)
+totals (suc zero) zero l h t = refl
+totals (suc zero) (suc zero) l h t = absurd t
+totals (suc zero) (suc (suc d)) l h t = absurd (omega arith)
+totals (suc (suc i)) d l h t = absurd (omega arith)
+
+-- the slots stand
+pub split-stands : SlotsStand o 2 C split
+split-stands = record {
+  named = also of-dose-1 (also (of-dose-0 4 5 (omega arith) (omega arith) (omega arith)) (also (of-dose-0 5 10 (omega arith) (omega arith) (omega arith)) none));
+  order = in-turn;
+  fans-apart = Pairs-imp (λ s u h e. inl h) apart;
+  doses-apart = Pairs-imp (λ s u h e. inl h) apart;
+  totals = totals;
+}
