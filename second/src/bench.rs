@@ -1,0 +1,1 @@
+pub fn run(_: usize, _: Option<&str>) -> bool { true }
