@@ -19,11 +19,18 @@ pub struct House {
     pub classes: Vec<Class>,
 }
 
+/// A way to find all classes of an order.
+type Finder = fn(&Order, &Intervals) -> Vec<Class>;
+
 /// Refusals 2 to 9.
 pub fn accept(bytes: &[u8]) -> Result<House, Judged> {
+    accept_by(bytes, classes::all)
+}
+
+fn accept_by(bytes: &[u8], find: Finder) -> Result<House, Judged> {
     let order = read(bytes).map_err(|r| Judged { number: r.number, place: r.place, ..Judged::default() })?;
     let spans = Intervals::of(&order);
-    let classes = classes::all(&order, &spans);
+    let classes = find(&order, &spans);
     match classes.first() {
         Some(c) if classes::too_fast(&order, c) => {
             Err(Judged { number: 9, place: 0, set: c.set, grams: c.grams as u32, time: c.time as u32 })
@@ -108,14 +115,18 @@ pub fn drawn(p: Point) -> Drawn {
 }
 
 /// The second program itself, behind the same four entry points.
-pub struct Own;
+pub struct Own(Finder);
+
+/// Classes over all subsets where there are few doses; classes by flows always.
+pub const OWN: Own = Own(classes::all);
+pub const OWN_FLOW: Own = Own(classes::by_flow);
 
 impl Peer for Own {
     fn plan(&self, order: &[u8], plan: &mut [u8]) -> Planned {
         if plan.len() < PLAN_BUFFER {
             return Planned { number: 1, ..Planned::default() };
         }
-        match accept(order) {
+        match accept_by(order, self.0) {
             Err(j) => planned(j),
             Ok(house) => {
                 let bytes = house.plan(None);
@@ -127,7 +138,7 @@ impl Peer for Own {
     }
 
     fn judge(&self, order: &[u8], plan: &[u8]) -> Judged {
-        match accept(order) {
+        match accept_by(order, self.0) {
             Err(j) => j,
             Ok(house) if house.stands(plan).is_ok() => Judged::default(),
             Ok(_) => Judged { number: 10, ..Judged::default() },
@@ -135,14 +146,14 @@ impl Peer for Own {
     }
 
     fn point(&self, order: &[u8], plan: &[u8], dose: usize, tick: u32) -> Drawn {
-        match accept(order) {
+        match accept_by(order, self.0) {
             Err(j) => not_drawn(j),
             Ok(house) => house.stands(plan).map_or(refused(10), |slots| house.draw(&slots, dose, tick)),
         }
     }
 
     fn advance(&self, order: &[u8], plan: &[u8], dose: &mut usize, tick: &mut u32) -> Drawn {
-        match accept(order) {
+        match accept_by(order, self.0) {
             Err(j) => not_drawn(j),
             Ok(house) => house.stands(plan).map_or(refused(10), |slots| house.step(&slots, dose, tick)),
         }

@@ -1,6 +1,6 @@
 //! Document 01's bench examples P1 to P12, its run line and its whole print of P2.
 
-use crate::answers::{accept, House, Own, PLAN_BUFFER};
+use crate::answers::{accept, House, OWN, PLAN_BUFFER};
 use crate::library::{Drawn, Judged, Peer, Planned, DOSING, FINISHED, IDLE, SHUT};
 use crate::orders::{dose_record, write, Dose, Order};
 use crate::printer;
@@ -67,8 +67,8 @@ impl Checks {
 
     fn refusal(&mut self, name: &str, bytes: &[u8], wanted: [u32; 5]) {
         let mut buffer = vec![7; PLAN_BUFFER];
-        let p = Own.plan(bytes, &mut buffer);
-        let j = Own.judge(bytes, &[]);
+        let p = OWN.plan(bytes, &mut buffer);
+        let j = OWN.judge(bytes, &[]);
         let [number, place, set, grams, time] = wanted;
         self.same(name, p, Planned { number, place, set, grams, time, classes: 0, slots: 0 });
         self.same(name, j, Judged { number, place, set, grams, time });
@@ -105,7 +105,7 @@ fn proved(c: &mut Checks) {
         o.doses.iter_mut().for_each(|d| d.bay = 5);
         write(&o, 0)
     };
-    c.same("P12", Own.plan(&one_bay(&[(0, 4, 10), (4, 8, 10)]), &mut vec![0; PLAN_BUFFER]).number, 0);
+    c.same("P12", OWN.plan(&one_bay(&[(0, 4, 10), (4, 8, 10)]), &mut vec![0; PLAN_BUFFER]).number, 0);
     c.refusal("P12", &one_bay(&[(0, 4, 10), (3, 8, 10)]), [8, 2, 0, 0, 0]);
 }
 
@@ -118,14 +118,14 @@ fn run_line(c: &mut Checks) {
     c.refusal("1,600 bytes", &[0; 1_600], [3, 0, 0, 0, 0]);
     c.refusal("no F", &dose_record(&Dose { bay: 1, release: 0, deadline: 1, grams: 1 }), [6, 0, 0, 0, 0]);
     let mut short = vec![0; PLAN_BUFFER - 1];
-    c.same("short buffer", Own.plan(&[1], &mut short), Planned { number: 1, ..Planned::default() });
+    c.same("short buffer", OWN.plan(&[1], &mut short), Planned { number: 1, ..Planned::default() });
 }
 
 fn states(c: &mut Checks) {
     let o = order(2, TOP, &[(1, 4, 10), (1, 4, 10), (1, 4, 10)]);
     let (bytes, house) = (write(&o, 2), accept(&write(&o, 2)).ok().expect("accepted"));
     let plan = house.plan(None);
-    let at = |dose, tick| Own.point(&bytes, &plan, dose, tick);
+    let at = |dose, tick| OWN.point(&bytes, &plan, dose, tick);
     let good = |amount, state, fan| Drawn { amount, state, fan, ..Drawn::default() };
     c.same("shut", at(1, 0), good(0, SHUT, 0));
     c.same("dosing at the release", at(1, 1), good(0, DOSING, 2));
@@ -136,14 +136,14 @@ fn states(c: &mut Checks) {
     let no = |number| Drawn { number, state: SHUT, ..Drawn::default() };
     c.same("no such dose", at(3, 604_801), no(11));
     c.same("tick", at(2, 604_801), no(12));
-    c.same("no plan", Own.point(&bytes, &plan[32..], 9, 604_801), no(10));
+    c.same("no plan", OWN.point(&bytes, &plan[32..], 9, 604_801), no(10));
     let (mut dose, mut tick) = (1, 604_799);
-    c.same("pen's last step", Own.advance(&bytes, &plan, &mut dose, &mut tick), good(10, FINISHED, 0));
-    c.same("pen at the end", Own.advance(&bytes, &plan, &mut dose, &mut tick), no(12));
+    c.same("pen's last step", OWN.advance(&bytes, &plan, &mut dose, &mut tick), good(10, FINISHED, 0));
+    c.same("pen at the end", OWN.advance(&bytes, &plan, &mut dose, &mut tick), no(12));
     c.same("pen stays", (dose, tick), (1, 604_800));
     let p3 = order(1, TOP, &[(0, 1, 1), (0, 1, 2)]);
     let plan = accept(&write(&p3, 0)).ok().expect("accepted").plan(None);
-    c.same("P3 at 0", Own.point(&write(&p3, 0), &plan, 1, 0), good(0, IDLE, 0));
+    c.same("P3 at 0", OWN.point(&write(&p3, 0), &plan, 1, 0), good(0, IDLE, 0));
 }
 
 pub fn run() -> Checks {

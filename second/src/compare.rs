@@ -7,8 +7,8 @@ use crate::layout::{plan_bytes, wrap, Slot};
 use crate::library::{Drawn, Judged, Peer, Planned};
 use crate::orders::{RECORD, WEEK};
 use crate::random::Random;
-use crate::variants;
-use crate::{near, tally::Tally};
+use crate::tally::Tally;
+use crate::{alone, near, variants};
 
 /// A case in which the two differ, with the bytes that show it.
 pub struct Difference {
@@ -20,13 +20,13 @@ pub struct Difference {
 /// How much of everything a case does.
 #[derive(Clone, Copy)]
 pub struct Measure {
-    /// Plans up to this length are damaged at every byte, longer ones at this many places.
+    /// Short plans are damaged at every byte, most others at this many places.
     pub bytes: usize,
     pub points: usize,
     pub moments: u32,
 }
 
-pub const USUAL: Measure = Measure { bytes: 256, points: 40, moments: 40 };
+pub const USUAL: Measure = Measure { bytes: 64, points: 24, moments: 40 };
 
 struct Case<'a> {
     peer: &'a dyn Peer,
@@ -164,7 +164,8 @@ impl Case<'_> {
 
     fn damaged(&mut self, house: &House, plan: &[u8]) -> Result<(), Difference> {
         let mut places: Vec<usize> = (0..plan.len()).collect();
-        if plan.len() > 4 * self.measure.bytes {
+        let every = plan.len() <= 8 * RECORD || (plan.len() <= 64 * RECORD && self.r.once_in(8));
+        if !every {
             self.r.shuffle(&mut places);
             places.truncate(self.measure.bytes);
         }
@@ -219,6 +220,12 @@ impl Case<'_> {
             self.standing(&house, plan)?;
         }
         let any = self.r.below(plans.len() as u64) as usize;
+        let slots = house.stands(&plans[any]).unwrap_or_default();
+        for (clause, bytes) in alone::each(&house, &plans[any], &slots, self.r) {
+            if self.judge(&house, &bytes)?.is_some() {
+                return self.differ(format!("{clause} broken alone, and the plan stands"), &bytes);
+            }
+        }
         self.damaged(&house, &plans[any])
     }
 }

@@ -86,3 +86,40 @@ mod linked {
 
 #[cfg(feature = "library")]
 pub use linked::Library;
+
+/// Bytes of stack that are painted before a call.
+const PAINTED: usize = 1 << 20;
+const PAINT: u8 = 0xA5;
+
+/// Paints the stack below the caller; the answer is the lowest painted place.
+#[inline(never)]
+fn paint() -> usize {
+    let mut wall = [0u8; PAINTED];
+    for byte in wall.iter_mut() {
+        unsafe { std::ptr::write_volatile(byte, PAINT) };
+    }
+    wall.as_ptr() as usize
+}
+
+/// How far down the paint is gone, read where it was laid (a frame of its own would wet it).
+#[inline(never)]
+fn look(low: usize) -> usize {
+    let mut kept = 0;
+    while kept < PAINTED && unsafe { std::ptr::read_volatile((low + kept) as *const u8) } == PAINT {
+        kept += 1;
+    }
+    PAINTED - kept
+}
+
+/// The deepest stack use of a call, on a thread of its own: paint, call and look.
+pub fn stack_use(call: impl FnOnce() + Send) -> usize {
+    std::thread::scope(|scope| {
+        let deep = std::thread::Builder::new().stack_size(8 * PAINTED);
+        let worker = deep.spawn_scoped(scope, || {
+            let low = paint();
+            call();
+            look(low)
+        });
+        worker.expect("a thread starts").join().expect("a thread ends")
+    })
+}

@@ -2,6 +2,7 @@
 
 #![deny(unsafe_code)]
 
+mod alone;
 mod answers;
 mod bench;
 mod cases;
@@ -44,7 +45,7 @@ const USE: &str = "use: second self [cases] [seed]
 #[cfg(feature = "library")]
 const PEER: (&str, library::Library) = ("the proved library", library::Library);
 #[cfg(not(feature = "library"))]
-const PEER: (&str, answers::Own) = ("the second program itself (built without --features library)", answers::Own);
+const PEER: (&str, answers::Own) = ("the second program itself (built without --features library)", answers::OWN);
 
 fn number(args: &[String], at: usize, usual: u64) -> u64 {
     match args.get(at) {

@@ -1,6 +1,6 @@
 //! The second program held against document 01's examples and against itself.
 
-use crate::answers::{accept, House, Own};
+use crate::answers::{accept, House, OWN};
 use crate::cases;
 use crate::classes::{by_flow, by_subsets};
 use crate::compare::{Measure, USUAL};
@@ -11,7 +11,7 @@ use crate::orders::{write, Order};
 use crate::random::Random;
 use crate::runs;
 use crate::stands::CLAUSES;
-use crate::{styles, variants};
+use crate::{alone, styles, variants};
 use std::time::Instant;
 
 fn fail(what: &str, case: u64, order: &Order) -> bool {
@@ -96,13 +96,22 @@ fn pairs_apart(slots: &[Slot]) -> bool {
 /// Plans damaged at every byte: a verdict each, and those that still stand keep the pairs apart and demand 3.
 fn damage(cases: u64, seed: u64) -> bool {
     let began = Instant::now();
-    let (mut broken, mut standing) = ([0u64; CLAUSES.len()], 0);
+    let (mut broken, mut alone, mut standing) = ([0u64; CLAUSES.len()], [0u64; CLAUSES.len()], 0);
     for case in 0..cases {
         let mut r = Random::of_case(seed ^ 0x5A5A, case);
         let (mut order, _) = styles::valid(&mut r);
         order.doses.truncate(8);
         let Ok(house) = accept(&write(&order, 0)) else { continue };
         let plan = variants::standing(&house, &mut r);
+        let slots = house.stands(&plan).expect("a standing plan");
+        for (clause, bytes) in alone::each(&house, &plan, &slots, &mut r) {
+            let i = CLAUSES.iter().position(|c| *c == clause).expect("listed");
+            alone[i] += 1;
+            match house.stands(&bytes) {
+                Err(found) if found == clause => {}
+                other => return fail(&format!("{clause} broken alone, judged {other:?}"), case, &order),
+            }
+        }
         let every = (0..plan.len()).map(|at| (at, false));
         for (at, whole) in every.chain((0..100).map(|i| (i, true))) {
             let bytes = if whole { variants::damage(&plan, &mut r) } else { variants::damage_byte(&plan, at, &mut r) };
@@ -120,12 +129,12 @@ fn damage(cases: u64, seed: u64) -> bool {
             }
         }
     }
-    for (clause, n) in CLAUSES.iter().zip(broken) {
-        println!("  damaged plans broken {n:>8}  {clause}");
+    for ((clause, n), m) in CLAUSES.iter().zip(broken).zip(alone) {
+        println!("  by damage {n:>8}, broken alone {m:>6}  {clause}");
     }
     let total: u64 = broken.iter().sum();
     took(&format!("{} damaged plans judged, {total} broken, {standing} still stand", total + standing), began);
-    broken.iter().all(|&n| n > 0) || cases < 200
+    broken.iter().chain(&alone).all(|&n| n > 0) || cases < 200
 }
 
 pub fn run(cases: u64, seed: u64) -> bool {
@@ -138,7 +147,7 @@ pub fn run(cases: u64, seed: u64) -> bool {
     good = damage(cases / 4, seed) && good;
     let few = Measure { bytes: 64, points: 10, moments: 5 };
     println!("the comparison with itself:");
-    good = runs::run(&Own, cases / 20, seed, 0, 1, if cases > 100_000 { USUAL } else { few }) && good;
+    good = runs::run(&OWN, cases / 20, seed, 0, 1, if cases > 100_000 { USUAL } else { few }) && good;
     println!("{}", if good { "self-test passed" } else { "self-test FAILED" });
     good
 }

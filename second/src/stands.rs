@@ -9,10 +9,10 @@ use std::cmp::Ordering;
 /// The first clause found broken, in words.
 pub type Broken = &'static str;
 
-pub const CLAUSES: [Broken; 17] = [
+pub const CLAUSES: [Broken; 18] = [
     "length", "kind", "zero byte", "class after slot", "class record", "classes missing", "no such class", "dose not of class",
     "W or P", "no such fan", "part not below W", "start not before end", "outside the window", "not in one interval",
-    "slots out of order or overlapping on a fan", "overlap of a dose", "total",
+    "slots out of order", "overlap of a fan", "overlap of a dose", "total",
 ];
 
 fn slot_of(r: &[u8]) -> Slot {
@@ -105,10 +105,13 @@ pub fn stands(order: &Order, spans: &Intervals, classes: &[Class], plan: &[u8]) 
                 let s = slot_of(r);
                 let j = alone(order, spans, classes, &s)?;
                 if let Some((i, b)) = last {
-                    let after = compare(b.end, b.grams, s.start, s.grams) != Ordering::Greater;
-                    let follows = (i, b.fan) < (j, s.fan) || ((i, b.fan) == (j, s.fan) && after);
-                    if !follows {
-                        return Err("slots out of order or overlapping on a fan");
+                    let start = compare(b.start, b.grams, s.start, s.grams);
+                    if (i, b.fan).cmp(&(j, s.fan)).then(start) == Ordering::Greater {
+                        return Err("slots out of order");
+                    }
+                    // In this order only neighbours on one fan of one interval can overlap.
+                    if (i, b.fan) == (j, s.fan) && compare(b.end, b.grams, s.start, s.grams) == Ordering::Greater {
+                        return Err("overlap of a fan");
                     }
                 }
                 last = Some((j, s));

@@ -7,7 +7,7 @@ use crate::random::Random;
 use crate::stands::compare;
 
 /// Slots by interval, fan, start.
-fn sorted(house: &House, mut slots: Vec<Slot>) -> Vec<Slot> {
+pub fn sorted(house: &House, mut slots: Vec<Slot>) -> Vec<Slot> {
     slots.sort_by(|a, b| {
         let place = |s: &Slot| (house.spans.at(s.start.0), s.fan);
         place(a).cmp(&place(b)).then_with(|| compare(a.start, a.grams, b.start, b.grams))
@@ -87,7 +87,7 @@ fn nudge(record: &mut [u8], tick_at: usize, up: bool) {
     let w = number(record, 20, 4);
     let (tick, part) = (number(record, tick_at, 4), number(record, tick_at + 4, 4));
     let (tick, part) = match (up, part) {
-        (true, p) if p + 1 == w => (tick + 1, 0),
+        (true, p) if p.wrapping_add(1) == w => (tick.wrapping_add(1), 0),
         (true, p) => (tick, p.wrapping_add(1)),
         (false, 0) => (tick.wrapping_sub(1), w.wrapping_sub(1)),
         (false, p) => (tick, p - 1),
