@@ -78,6 +78,25 @@ impl Checks {
 
 const TOP: (u32, u32) = (1_000, 1);
 
+/// Two windows of one bay, F first.
+fn one_bay(windows: &[Window]) -> Vec<u8> {
+    let mut o = order(1, TOP, windows);
+    o.doses.iter_mut().for_each(|d| d.bay = 5);
+    write(&o, 0)
+}
+
+/// The examples' orders and the samples, as the first cases of every comparison.
+pub fn fixed() -> Vec<Vec<u8>> {
+    let mut list = vec![p1(TOP), p2(), order(1, TOP, &[(0, 1, 1), (0, 1, 2)]), order(1, TOP, &[(0, 2, 4), (2, 4, 4)])];
+    list.extend([order(2, TOP, &[(0, 5, 10)]), order(2, TOP, &[(0, 2, 8), (0, 4, 4)]), p1((4, 1)), p1((3, 1))]);
+    list.extend([order(1, (33_333, 10_000), &[(0, 3, 10)]), order(3, TOP, &[]), order(1, TOP, &[(0, 4, 0)])]);
+    list.extend([order(1, TOP, &[(0, 4, 1_000_001)]), order(1, TOP, &[(0, 4, 1); 25])]);
+    let mut bytes: Vec<Vec<u8>> = list.iter().map(|o| write(o, 0)).collect();
+    bytes.extend([Vec::new(), one_bay(&[(0, 4, 10), (4, 8, 10)]), one_bay(&[(0, 4, 10), (3, 8, 10)])]);
+    bytes.extend(crate::samples::all().into_iter().map(|(_, b)| b));
+    bytes
+}
+
 fn proved(c: &mut Checks) {
     if let Some(h) = c.classes("P1", &p1(TOP), &[(2, 16, 4), (1, 20, 6)]) {
         c.amounts("P1 amounts", &h, 0, &[(4, 0), (5, 3), (6, 6), (7, 10), (10, 20)]);
@@ -100,11 +119,6 @@ fn proved(c: &mut Checks) {
     c.classes("P10", &order(3, TOP, &[]), &[]);
     c.same("P10 print", printer::plan(&write(&order(3, TOP, &[]), 0)), "total 0 0\n".into());
     c.refusal("P11", &[], [6, 0, 0, 0, 0]);
-    let one_bay = |windows: &[Window]| {
-        let mut o = order(1, TOP, windows);
-        o.doses.iter_mut().for_each(|d| d.bay = 5);
-        write(&o, 0)
-    };
     c.same("P12", OWN.plan(&one_bay(&[(0, 4, 10), (4, 8, 10)]), &mut vec![0; PLAN_BUFFER]).number, 0);
     c.refusal("P12", &one_bay(&[(0, 4, 10), (3, 8, 10)]), [8, 2, 0, 0, 0]);
 }

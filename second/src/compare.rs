@@ -8,7 +8,7 @@ use crate::library::{Drawn, Judged, Peer, Planned};
 use crate::orders::{RECORD, WEEK};
 use crate::random::Random;
 use crate::tally::Tally;
-use crate::{alone, near, variants};
+use crate::{alone, cases, near, variants};
 
 /// A case in which the two differ, with the bytes that show it.
 pub struct Difference {
@@ -204,6 +204,13 @@ impl Case<'_> {
         self.step(&plan, not_drawn(refusal), pen, pen)
     }
 
+    /// Planning alone, and judging where the order is refused.
+    fn brief(&mut self) -> Result<(), Difference> {
+        let own = accept(&self.order);
+        self.plan(&own)?;
+        own.err().map_or(Ok(()), |refusal| self.refused(refusal))
+    }
+
     fn run(&mut self) -> Result<(), Difference> {
         let own = accept(&self.order);
         self.tally.order(&own);
@@ -241,9 +248,21 @@ fn by_wrap_around(house: &House, slots: &[Slot], plan: &[u8]) -> bool {
     plan_bytes(&house.classes, &wrap(&house.spans, &house.classes, &shares)) == plan
 }
 
-/// Runs case number `case` of a seed.
-pub fn case(peer: &dyn Peer, seed: u64, case: u64, measure: Measure, tally: &mut Tally) -> Result<(), Difference> {
-    let mut r = Random::of_case(seed, case);
-    let order = near::bytes(&mut r);
-    Case { peer, order, measure, r: &mut r, tally }.run()
+/// The order of a case: document 01's examples and the samples first, then by chance.
+pub fn order_of(number: u64, r: &mut Random) -> Vec<u8> {
+    cases::fixed().into_iter().nth(number as usize).unwrap_or_else(|| near::bytes(r))
+}
+
+/// Runs one case of a seed. The first also takes every length of order from 0 to 1,700.
+pub fn case(peer: &dyn Peer, seed: u64, number: u64, measure: Measure, tally: &mut Tally) -> Result<(), Difference> {
+    let mut r = Random::of_case(seed, number);
+    let order = order_of(number, &mut r);
+    Case { peer, order, measure, r: &mut r, tally }.run()?;
+    if number == 0 {
+        let long = near::long(&mut r);
+        for len in 0..=1_700 {
+            Case { peer, order: long[..len].to_vec(), measure, r: &mut r, tally }.brief()?;
+        }
+    }
+    Ok(())
 }

@@ -111,19 +111,21 @@ fn spoil(bytes: &mut Vec<u8>, r: &mut Random) {
 
 /// Any length from 0 to 1,700: records repeated, noise, or a mixture.
 fn any_length(r: &mut Random) -> Vec<u8> {
-    let len = if r.once_in(2) { 32 * r.below(54) as usize } else { r.below(1_701) as usize };
+    let len = if r.once_in(2) { RECORD * r.below(54) as usize } else { r.below(1_701) as usize };
     match r.below(3) {
         0 => (0..len).map(|_| r.below(256) as u8).collect(),
         1 => (0..len).map(|i| if i % RECORD == 0 { r.pick(b"FDDD") } else { 0 }).collect(),
-        _ => {
-            let mut all = fan_record(r.range(1, 8), MILLION, 1).to_vec();
-            for i in 0..60 {
-                all.extend(dose_record(&Dose { bay: 1 + i, release: 5 * i, deadline: 5 * i + 7, grams: 3 + i }));
-            }
-            all.truncate(len);
-            all
-        }
+        _ => long(r)[..len].to_vec(),
     }
+}
+
+/// More right records than an order may have.
+pub fn long(r: &mut Random) -> Vec<u8> {
+    let mut all = fan_record(r.range(1, 8), MILLION, 1).to_vec();
+    for i in 0..60 {
+        all.extend(dose_record(&Dose { bay: 1 + i, release: 5 * i, deadline: 5 * i + 7, grams: 3 + i }));
+    }
+    all
 }
 
 /// Bytes for one case: an order, nearly one, or none.

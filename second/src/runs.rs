@@ -1,7 +1,8 @@
 //! Many cases on some threads, with a progress line; failing cases become files.
 
-use crate::compare::{case, Difference, Measure};
+use crate::compare::{case, order_of, Difference, Measure};
 use crate::library::Peer;
+use crate::random::Random;
 use crate::tally::Tally;
 use std::io::Write;
 use std::panic::{catch_unwind, AssertUnwindSafe};
@@ -16,7 +17,7 @@ const ENOUGH: usize = 5;
 pub fn guarded(peer: &dyn Peer, seed: u64, number: u64, measure: Measure, tally: &mut Tally) -> Result<(), Difference> {
     let run = catch_unwind(AssertUnwindSafe(|| case(peer, seed, number, measure, tally)));
     run.unwrap_or_else(|_| {
-        let order = crate::near::bytes(&mut crate::random::Random::of_case(seed, number));
+        let order = order_of(number, &mut Random::of_case(seed, number));
         Err(Difference { what: "a panic".into(), order, plan: Vec::new() })
     })
 }

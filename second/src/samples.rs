@@ -42,7 +42,7 @@ fn house() -> Order {
 }
 
 /// The samples by name.
-fn all() -> Vec<(&'static str, Vec<u8>)> {
+pub fn all() -> Vec<(&'static str, Vec<u8>)> {
     let mut fast = house();
     (fast.top_grams, fast.top_seconds) = (29, 10);
     let mut damaged = write(&house(), 0);

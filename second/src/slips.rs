@@ -3,6 +3,7 @@
 use crate::answers::{drawn, not_drawn, planned, refused, House, OWN, PLAN_BUFFER};
 use crate::classes::{by_flow, grams_of, open_time, too_fast, Class, FEW};
 use crate::compare::{Difference, USUAL};
+use crate::flow::Network;
 use crate::intervals::Intervals;
 use crate::layout::{plan_bytes, wrap, Slot};
 use crate::library::{Drawn, Judged, Peer, Planned};
@@ -40,11 +41,11 @@ use Slip::*;
 pub const SLIPS: [(Slip, &str); 19] = [
     (FansUsed, "Fig. 2, line 6 as printed: the smaller of active doses and fans already used"),
     (FansUsedLater, "the same, but the first class sees all fans"),
-    (AnySet, "any set of greatest rate: the first one met"),
+    (AnySet, "any set of greatest rate: the last one met"),
     (WholeDivision, "rates of sets compared by whole division"),
     (WholeDivisionTop, "top rate compared by whole division (P9 passes)"),
     (Floats, "rates compared as 32-bit floats"),
-    (WideFloats, "rates compared as 64-bit floats (never differs, see README)"),
+    (WideFloats, "rates compared as 64-bit floats (never differs, see below)"),
     (NoCap, "shares laid end to end without the cap L x W"),
     (StraightLine, "a straight line from release to deadline"),
     (RoundedSlots, "amounts rounded slot by slot"),
@@ -80,8 +81,8 @@ impl Slipped {
             let rate = (grams_of(order, set), open_time(spans, free, set));
             if self.above(rate, best) || found == 0 {
                 (best, found) = (rate, set);
-            } else if !self.above(best, rate) && self.0 != AnySet {
-                found |= set;
+            } else if !self.above(best, rate) {
+                found = if self.0 == AnySet { set } else { found | set };
             }
             set = (set - 1) & rest;
         }
@@ -122,26 +123,29 @@ impl Slipped {
         }
     }
 
-    /// Shares without the cap: each need is met greedily wherever the interval has time left.
-    fn greedy(house: &House, class: &Class) -> Shares {
-        let mut table = vec![vec![0; house.order.doses.len()]; house.spans.count()];
-        let mut left: Vec<u64> =
-            (0..house.spans.count()).map(|j| house.spans.length(j) * u64::from(class.reserved[j]) * class.grams).collect();
-        for (k, d) in house.order.doses.iter().enumerate().filter(|(k, _)| class.set >> k & 1 == 1) {
-            let mut need = u64::from(d.grams) * class.time;
-            for j in (0..left.len()).filter(|&j| house.spans.active[j] >> k & 1 == 1) {
-                let x = need.min(left[j]);
-                table[j][k] += x;
-                left[j] -= x;
-                need -= x;
+    /// Shares without the cap: all needs met, but a dose may get more of an interval than it is long.
+    fn uncapped(house: &House, class: &Class) -> Shares {
+        let (n, m) = (house.order.doses.len(), house.spans.count());
+        let mut net = Network::new(n + m + 2);
+        let mut table = vec![vec![0; n]; m];
+        let mut cells = Vec::new();
+        for k in (0..n).filter(|k| class.set >> k & 1 == 1) {
+            net.edge(n + m, k, u64::from(house.order.doses[k].grams) * class.time);
+            for j in (0..m).filter(|&j| house.spans.active[j] >> k & 1 == 1) {
+                cells.push((k, j, net.edge(k, n + j, u64::MAX / 4)));
             }
         }
+        for j in 0..m {
+            net.edge(n + j, n + m + 1, house.spans.length(j) * u64::from(class.reserved[j]) * class.grams);
+        }
+        net.run(n + m, n + m + 1);
+        cells.iter().for_each(|&(k, j, e)| table[j][k] = net.moved(e));
         table
     }
 
     fn slots(&self, house: &House) -> Vec<Slot> {
         let found = |c: &Class| match self.0 {
-            NoCap => Some(Slipped::greedy(house, c)),
+            NoCap => Some(Slipped::uncapped(house, c)),
             _ => crate::shares::shares(&house.order, &house.spans, c, None).0,
         };
         let Some(shares) = house.classes.iter().map(found).collect::<Option<Vec<Shares>>>() else { return Vec::new() };
@@ -255,28 +259,30 @@ impl Peer for Slipped {
     }
 }
 
-/// The first case that differs, if one does.
-fn find(peer: &dyn Peer, cases: u64, seed: u64) -> Option<(u64, Difference)> {
+/// The first case from `from` on that differs, if one does.
+fn find(peer: &dyn Peer, from: u64, cases: u64, seed: u64) -> Option<(u64, Difference)> {
     let mut tally = Tally::default();
-    (0..cases).find_map(|n| guarded(peer, seed, n, USUAL, &mut tally).err().map(|d| (n, d)))
+    (from..from + cases).find_map(|n| guarded(peer, seed, n, USUAL, &mut tally).err().map(|d| (n - from + 1, d)))
 }
 
 /// Builds each error in and prints the case that found it; true if all but 64-bit floats were found.
 pub fn run(cases: u64, seed: u64) -> bool {
-    println!("seed {seed}, at most {cases} cases for each error\n\n| error | cases until found | what differed |\n|---|---|---|");
-    let mut good = find(&OWN, cases.min(20), seed).is_none();
+    println!("seed {seed}, at most {cases} cases for each error\n");
+    println!("| error | found by case | by random case | what differed first |\n|---|---|---|---|");
+    let fixed = crate::cases::fixed().len() as u64;
+    let mut good = find(&OWN, 0, cases.min(50), seed).is_none();
     std::panic::set_hook(Box::new(|_| {}));
     for (slip, words) in SLIPS {
-        match find(&Slipped(slip), cases, seed) {
-            Some((n, d)) => {
-                let what: String = d.what.chars().take(60).collect();
-                println!("| {words} | {} | {} |", n + 1, what.split(['{', '(']).next().unwrap_or("").trim());
-            }
+        let random = find(&Slipped(slip), fixed, cases, seed).map_or(format!("not in {cases}"), |(n, _)| n.to_string());
+        let (n, what) = match find(&Slipped(slip), 0, if slip == WideFloats { fixed } else { cases }, seed) {
+            Some((n, d)) => (n.to_string(), d.what),
             None => {
-                println!("| {words} | not in {cases} | – |");
                 good = good && slip == WideFloats;
+                ("none".into(), "nothing".into())
             }
-        }
+        };
+        let short = what.split(": Planned").next().and_then(|w| w.split(": Judged").next()).and_then(|w| w.split(": Drawn").next());
+        println!("| {words} | {n} | {random} | {} |", short.unwrap_or("").trim());
     }
     good
 }
