@@ -112,7 +112,11 @@ pub fn by_flow(order: &Order, spans: &Intervals) -> Vec<Class> {
 
 /// All classes: by the definition for few doses, by flows for many.
 pub fn all(order: &Order, spans: &Intervals) -> Vec<Class> {
-    if order.doses.len() <= FEW { by_subsets(order, spans) } else { by_flow(order, spans) }
+    if order.doses.len() <= FEW {
+        by_subsets(order, spans)
+    } else {
+        by_flow(order, spans)
+    }
 }
 
 pub fn first(order: &Order, spans: &Intervals) -> Option<Class> {

@@ -81,7 +81,12 @@ fn plans(cases: u64, seed: u64) -> bool {
             }
         }
     }
-    took(&format!("{standing} plans stand and keep demand 3 at 40 checks each, {differing} orders with other shares, longest {longest} slots"), began);
+    took(
+        &format!(
+            "{standing} plans stand and keep demand 3 at 40 checks each, {differing} orders with other shares, longest {longest} slots"
+        ),
+        began,
+    );
     true
 }
 

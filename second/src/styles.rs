@@ -8,8 +8,20 @@ use crate::random::Random;
 const HARD: &[u8] = include_bytes!("../../samples/hard.order");
 
 pub const STYLES: [&str; 14] = [
-    "small", "one-second", "equal windows", "touching", "equal rates", "extreme grams", "week", "nested", "staircase",
-    "close rates", "hard", "edges", "spread", "two groups",
+    "small",
+    "one-second",
+    "equal windows",
+    "touching",
+    "equal rates",
+    "extreme grams",
+    "week",
+    "nested",
+    "staircase",
+    "close rates",
+    "hard",
+    "edges",
+    "spread",
+    "two groups",
 ];
 
 fn count(r: &mut Random) -> usize {
