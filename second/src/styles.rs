@@ -88,8 +88,8 @@ fn windows(style: usize, n: usize, r: &mut Random) -> Vec<(u32, u32, u32)> {
                 (a, (a + length).min(top).max(a + 1), some_grams(r))
             }
             9 => {
-                let a = r.range(0, 8);
-                (a, a + 500_000 + r.range(0, 8), 999_000 + r.range(0, 16))
+                let (a, length) = (r.range(0, 8), 500_000 + r.range(0, 8));
+                (a, a + length, length - r.range(0, 2))
             }
             11 => match r.below(3) {
                 0 => (WEEK - 1, WEEK, some_grams(r)),
