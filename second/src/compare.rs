@@ -236,7 +236,7 @@ impl Case<'_> {
         let slots = house.stands(&plans[any]).unwrap_or_default();
         for (clause, bytes) in alone::each(&house, &plans[any], &slots, self.r) {
             if self.judge(&house, &bytes)?.is_some() {
-                return self.differ(format!("{clause} broken alone, and the plan stands"), &bytes);
+                return self.differ(format!("{clause} broken on purpose, and the plan stands"), &bytes);
             }
         }
         self.damaged(&house, &plans[any])
