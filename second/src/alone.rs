@@ -1,4 +1,5 @@
-//! Plans in which one clause of "A plan stands" is broken and every other holds.
+//! Plans spoilt to break one clause of "A plan stands". Mostly the others hold; a foreign dose, a
+//! wrong fan or missing records also upset totals or the sequence, which the judge meets later.
 
 use crate::answers::House;
 use crate::layout::{class_record, plan_bytes, slot_record, Slot};
@@ -133,7 +134,7 @@ fn places(house: &House, slots: &[Slot], r: &mut Random) -> Found {
     out
 }
 
-/// For each clause that this plan lets be broken alone: its name and the bytes. The plan must stand.
+/// For each clause that this plan lets be broken: its name and the bytes. The plan must stand.
 pub fn each(house: &House, plan: &[u8], slots: &[Slot], r: &mut Random) -> Found {
     if slots.is_empty() {
         let mut record = slot_record(&Slot { fan: 1, dose: 0, start: (0, 0), end: (1, 0), grams: 1, time: 1, class: 1 });

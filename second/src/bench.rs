@@ -136,7 +136,8 @@ pub fn run(count: usize, file: Option<&str>) -> bool {
             }
         }
     }
-    text += "\nDeepest stack use in bytes (painted, called, looked at), greatest over the hard sample and 20 random orders of 24 doses:\n\n";
+    text +=
+        "\nDeepest stack use in bytes (painted, called, looked at), greatest over the hard sample and 20 random orders of 24 doses:\n\n";
     text += "| side | plan | judge | point | pen step |\n|---|---|---|---|---|\n";
     let mut orders = random_orders(24, 20, &mut r);
     orders.extend(hard_orders(24));

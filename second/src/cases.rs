@@ -91,6 +91,8 @@ pub fn fixed() -> Vec<Vec<u8>> {
     list.extend([order(2, TOP, &[(0, 5, 10)]), order(2, TOP, &[(0, 2, 8), (0, 4, 4)]), p1((4, 1)), p1((3, 1))]);
     list.extend([order(1, (33_333, 10_000), &[(0, 3, 10)]), order(3, TOP, &[]), order(1, TOP, &[(0, 4, 0)])]);
     list.extend([order(1, TOP, &[(0, 4, 1_000_001)]), order(1, TOP, &[(0, 4, 1); 25])]);
+    // Two rates that differ by 1 part in 3 x 10^11.
+    list.push(order(2, TOP, &[(0, 604_800, 604_799), (0, 604_799, 604_798)]));
     let mut bytes: Vec<Vec<u8>> = list.iter().map(|o| write(o, 0)).collect();
     bytes.extend([Vec::new(), one_bay(&[(0, 4, 10), (4, 8, 10)]), one_bay(&[(0, 4, 10), (3, 8, 10)])]);
     bytes.extend(crate::samples::all().into_iter().map(|(_, b)| b));

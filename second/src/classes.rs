@@ -53,7 +53,7 @@ fn next_by_subsets(order: &Order, spans: &Intervals, free: &[u32], rest: u32) ->
 fn heaviest(order: &Order, spans: &Intervals, free: &[u32], rest: u32, w: u64, p: u64) -> u32 {
     let (n, m) = (order.doses.len(), spans.count());
     let (source, sink) = (n + m, n + m + 1);
-    let mut net = Network::new(n + m + 2);
+    let mut net = Network::new(n + m + 2, n * m + n + m);
     for k in (0..n).filter(|k| rest >> k & 1 == 1) {
         net.edge(source, k, u64::from(order.doses[k].grams) * p);
         for j in (0..m).filter(|&j| spans.active[j] >> k & 1 == 1 && free[j] > 0) {
@@ -112,7 +112,11 @@ pub fn by_flow(order: &Order, spans: &Intervals) -> Vec<Class> {
 
 /// All classes: by the definition for few doses, by flows for many.
 pub fn all(order: &Order, spans: &Intervals) -> Vec<Class> {
-    if order.doses.len() <= FEW { by_subsets(order, spans) } else { by_flow(order, spans) }
+    if order.doses.len() <= FEW {
+        by_subsets(order, spans)
+    } else {
+        by_flow(order, spans)
+    }
 }
 
 pub fn first(order: &Order, spans: &Intervals) -> Option<Class> {

@@ -51,13 +51,17 @@ impl Case<'_> {
         Ok(answer)
     }
 
-    fn plan(&mut self, own: &Result<House, Judged>) -> Result<Option<Vec<u8>>, Difference> {
-        let len = match self.r.below(12) {
+    /// A buffer that is too short, now and then; the answer is 1 whatever the order.
+    fn short(&mut self, own: &Result<House, Judged>) -> Result<(), Difference> {
+        let len = match self.r.below(6) {
             0 => self.r.pick(&[0, 1, 32, PLAN_BUFFER - 1, PLAN_BUFFER - 32]),
             1 => self.r.below(PLAN_BUFFER as u64) as usize,
-            2 => PLAN_BUFFER + self.r.below(3_000) as usize,
-            _ => PLAN_BUFFER,
+            _ => return Ok(()),
         };
+        self.plan(own, len).map(|_| ())
+    }
+
+    fn plan(&mut self, own: &Result<House, Judged>, len: usize) -> Result<Option<Vec<u8>>, Difference> {
         let order = Lent::new(&self.order, self.r);
         let mut buffer = Lent::noise(len, self.r);
         let answer = self.peer.plan(order.bytes(), buffer.bytes_mut());
@@ -207,14 +211,16 @@ impl Case<'_> {
     /// Planning alone, and judging where the order is refused.
     fn brief(&mut self) -> Result<(), Difference> {
         let own = accept(&self.order);
-        self.plan(&own)?;
+        self.plan(&own, PLAN_BUFFER)?;
         own.err().map_or(Ok(()), |refusal| self.refused(refusal))
     }
 
     fn run(&mut self) -> Result<(), Difference> {
         let own = accept(&self.order);
         self.tally.order(&own);
-        let planned = self.plan(&own)?;
+        self.short(&own)?;
+        let len = PLAN_BUFFER + if self.r.once_in(8) { self.r.below(3_000) as usize } else { 0 };
+        let planned = self.plan(&own, len)?;
         let house = match own {
             Err(refusal) => return self.refused(refusal),
             Ok(house) => house,
@@ -230,7 +236,7 @@ impl Case<'_> {
         let slots = house.stands(&plans[any]).unwrap_or_default();
         for (clause, bytes) in alone::each(&house, &plans[any], &slots, self.r) {
             if self.judge(&house, &bytes)?.is_some() {
-                return self.differ(format!("{clause} broken alone, and the plan stands"), &bytes);
+                return self.differ(format!("{clause} broken on purpose, and the plan stands"), &bytes);
             }
         }
         self.damaged(&house, &plans[any])

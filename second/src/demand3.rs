@@ -31,7 +31,11 @@ fn some_tick(house: &House, slots: &[Slot], dose: usize, r: &mut Random) -> u32 
         2 => d.deadline,
         3 | 4 if !slots.is_empty() => {
             let s = slots[r.below(slots.len() as u64) as usize];
-            if r.once_in(2) { s.start.0 } else { s.end.0 }
+            if r.once_in(2) {
+                s.start.0
+            } else {
+                s.end.0
+            }
         }
         _ => r.range(d.release, d.deadline),
     };

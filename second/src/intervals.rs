@@ -36,6 +36,10 @@ impl Intervals {
     /// The interval that holds the moment just after this tick's start, if any.
     pub fn at(&self, tick: u32) -> Option<usize> {
         let before = self.instants.partition_point(|&i| i <= tick);
-        if before == 0 || before == self.instants.len() { None } else { Some(before - 1) }
+        if before == 0 || before == self.instants.len() {
+            None
+        } else {
+            Some(before - 1)
+        }
     }
 }

@@ -58,7 +58,12 @@ mod linked {
         fn knellgable_judge(order: *const u8, order_len: usize, plan: *const u8, plan_len: usize) -> Judged;
         fn knellgable_point(order: *const u8, order_len: usize, plan: *const u8, plan_len: usize, dose: usize, tick: u32) -> Drawn;
         fn knellgable_advance(
-            order: *const u8, order_len: usize, plan: *const u8, plan_len: usize, dose: *mut usize, tick: *mut u32,
+            order: *const u8,
+            order_len: usize,
+            plan: *const u8,
+            plan_len: usize,
+            dose: *mut usize,
+            tick: *mut u32,
         ) -> Drawn;
     }
 

@@ -10,7 +10,11 @@ fn records(bytes: &[u8], kind: u8) -> Vec<usize> {
 }
 
 fn any(r: &mut Random, list: &[usize]) -> Option<usize> {
-    if list.is_empty() { None } else { Some(r.pick(list)) }
+    if list.is_empty() {
+        None
+    } else {
+        Some(r.pick(list))
+    }
 }
 
 fn insert(bytes: &mut Vec<u8>, record: &[u8], r: &mut Random) {
@@ -21,9 +25,23 @@ fn insert(bytes: &mut Vec<u8>, record: &[u8], r: &mut Random) {
 /// A dose field at or past its bounds.
 fn bad_dose(bytes: &mut [u8], at: usize, r: &mut Random) {
     let (offset, width, value) = r.pick(&[
-        (2, 2, 0), (2, 2, 1_000), (2, 2, 999), (2, 2, 65_535), (4, 4, WEEK), (4, 4, WEEK - 1), (4, 4, u32::MAX),
-        (8, 4, WEEK + 1), (8, 4, WEEK), (8, 4, 0), (8, 4, u32::MAX), (12, 4, 0), (12, 4, MILLION), (12, 4, MILLION + 1),
-        (12, 4, u32::MAX), (8, 4, u32::MAX - 1), (4, 4, 0),
+        (2, 2, 0),
+        (2, 2, 1_000),
+        (2, 2, 999),
+        (2, 2, 65_535),
+        (4, 4, WEEK),
+        (4, 4, WEEK - 1),
+        (4, 4, u32::MAX),
+        (8, 4, WEEK + 1),
+        (8, 4, WEEK),
+        (8, 4, 0),
+        (8, 4, u32::MAX),
+        (12, 4, 0),
+        (12, 4, MILLION),
+        (12, 4, MILLION + 1),
+        (12, 4, u32::MAX),
+        (8, 4, u32::MAX - 1),
+        (4, 4, 0),
     ]);
     put(&mut bytes[at..], offset, width, value);
     if r.once_in(4) {
@@ -34,8 +52,19 @@ fn bad_dose(bytes: &mut [u8], at: usize, r: &mut Random) {
 
 fn bad_fan(bytes: &mut [u8], at: usize, r: &mut Random) {
     let (offset, width, value) = r.pick(&[
-        (1, 1, 0), (1, 1, 8), (1, 1, 9), (1, 1, 255), (4, 4, 0), (4, 4, 1), (4, 4, MILLION), (4, 4, MILLION + 1),
-        (8, 4, 0), (8, 4, MILLION), (8, 4, MILLION + 1), (8, 4, u32::MAX), (4, 4, u32::MAX),
+        (1, 1, 0),
+        (1, 1, 8),
+        (1, 1, 9),
+        (1, 1, 255),
+        (4, 4, 0),
+        (4, 4, 1),
+        (4, 4, MILLION),
+        (4, 4, MILLION + 1),
+        (8, 4, 0),
+        (8, 4, MILLION),
+        (8, 4, MILLION + 1),
+        (8, 4, u32::MAX),
+        (4, 4, u32::MAX),
     ]);
     put(&mut bytes[at..], offset, width, value);
 }

@@ -70,10 +70,8 @@ pub fn read(bytes: &[u8]) -> Result<Order, Refusal> {
                     return refuse(4, place);
                 }
                 let d = Dose { bay: number(r, 2, 2), release: number(r, 4, 4), deadline: number(r, 8, 4), grams: number(r, 12, 4) };
-                let right = between(1, d.bay, 999)
-                    && d.release < WEEK
-                    && between(d.release + 1, d.deadline, WEEK)
-                    && between(1, d.grams, MILLION);
+                let right =
+                    between(1, d.bay, 999) && d.release < WEEK && between(d.release + 1, d.deadline, WEEK) && between(1, d.grams, MILLION);
                 if !right {
                     return refuse(5, place);
                 }

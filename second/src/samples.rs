@@ -47,13 +47,7 @@ pub fn all() -> Vec<(&'static str, Vec<u8>)> {
     (fast.top_grams, fast.top_seconds) = (29, 10);
     let mut damaged = write(&house(), 0);
     damaged[7 * 32 + 21] = 0x40;
-    vec![
-        ("p2", write(&p2(), 0)),
-        ("house", write(&house(), 0)),
-        ("fast", write(&fast, 0)),
-        ("damaged", damaged),
-        ("hard", HARD.to_vec()),
-    ]
+    vec![("p2", write(&p2(), 0)), ("house", write(&house(), 0)), ("fast", write(&fast, 0)), ("damaged", damaged), ("hard", HARD.to_vec())]
 }
 
 /// Writes NAME.order and NAME.txt for each sample.

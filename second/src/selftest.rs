@@ -81,7 +81,12 @@ fn plans(cases: u64, seed: u64) -> bool {
             }
         }
     }
-    took(&format!("{standing} plans stand and keep demand 3 at 40 checks each, {differing} orders with other shares, longest {longest} slots"), began);
+    took(
+        &format!(
+            "{standing} plans stand and keep demand 3 at 40 checks each, {differing} orders with other shares, longest {longest} slots"
+        ),
+        began,
+    );
     true
 }
 
@@ -110,7 +115,7 @@ fn damage(cases: u64, seed: u64) -> bool {
             alone[i] += 1;
             match house.stands(&bytes) {
                 Err(found) if found == clause => {}
-                other => return fail(&format!("{clause} broken alone, judged {other:?}"), case, &order),
+                other => return fail(&format!("{clause} broken on purpose, judged {other:?}"), case, &order),
             }
         }
         let every = (0..plan.len()).map(|at| (at, false));
@@ -131,7 +136,7 @@ fn damage(cases: u64, seed: u64) -> bool {
         }
     }
     for ((clause, n), m) in CLAUSES.iter().zip(broken).zip(alone) {
-        println!("  by damage {n:>8}, broken alone {m:>6}  {clause}");
+        println!("  by damage {n:>8}, on purpose {m:>6}  {clause}");
     }
     let total: u64 = broken.iter().sum();
     took(&format!("{} damaged plans judged, {total} broken, {standing} still stand", total + standing), began);

@@ -13,7 +13,7 @@ pub type Shares = Vec<Vec<u64>>;
 pub fn shares(order: &Order, spans: &Intervals, class: &Class, chance: Option<&mut Random>) -> (Option<Shares>, u64) {
     let (n, m) = (order.doses.len(), spans.count());
     let (source, sink) = (n + m, n + m + 1);
-    let mut net = Network::new(n + m + 2);
+    let mut net = Network::new(n + m + 2, n * m + n + m);
     let mut cells = Vec::new();
     for k in (0..n).filter(|k| class.set >> k & 1 == 1) {
         cells.extend((0..m).filter(|&j| spans.active[j] >> k & 1 == 1 && class.reserved[j] > 0).map(|j| (k, j)));

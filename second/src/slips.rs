@@ -126,7 +126,7 @@ impl Slipped {
     /// Shares without the cap: all needs met, but a dose may get more of an interval than it is long.
     fn uncapped(house: &House, class: &Class) -> Shares {
         let (n, m) = (house.order.doses.len(), house.spans.count());
-        let mut net = Network::new(n + m + 2);
+        let mut net = Network::new(n + m + 2, n * m + n + m);
         let mut table = vec![vec![0; n]; m];
         let mut cells = Vec::new();
         for k in (0..n).filter(|k| class.set >> k & 1 == 1) {

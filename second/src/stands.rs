@@ -10,9 +10,24 @@ use std::cmp::Ordering;
 pub type Broken = &'static str;
 
 pub const CLAUSES: [Broken; 18] = [
-    "length", "kind", "zero byte", "class after slot", "class record", "classes missing", "no such class", "dose not of class",
-    "W or P", "no such fan", "part not below W", "start not before end", "outside the window", "not in one interval",
-    "slots out of order", "overlap of a fan", "overlap of a dose", "total",
+    "length",
+    "kind",
+    "zero byte",
+    "class after slot",
+    "class record",
+    "classes missing",
+    "no such class",
+    "dose not of class",
+    "W or P",
+    "no such fan",
+    "part not below W",
+    "start not before end",
+    "outside the window",
+    "not in one interval",
+    "slots out of order",
+    "overlap of a fan",
+    "overlap of a dose",
+    "total",
 ];
 
 fn slot_of(r: &[u8]) -> Slot {

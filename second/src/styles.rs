@@ -8,8 +8,20 @@ use crate::random::Random;
 const HARD: &[u8] = include_bytes!("../../samples/hard.order");
 
 pub const STYLES: [&str; 14] = [
-    "small", "one-second", "equal windows", "touching", "equal rates", "extreme grams", "week", "nested", "staircase",
-    "close rates", "hard", "edges", "spread", "two groups",
+    "small",
+    "one-second",
+    "equal windows",
+    "touching",
+    "equal rates",
+    "extreme grams",
+    "week",
+    "nested",
+    "staircase",
+    "close rates",
+    "hard",
+    "edges",
+    "spread",
+    "two groups",
 ];
 
 fn count(r: &mut Random) -> usize {
@@ -76,8 +88,8 @@ fn windows(style: usize, n: usize, r: &mut Random) -> Vec<(u32, u32, u32)> {
                 (a, (a + length).min(top).max(a + 1), some_grams(r))
             }
             9 => {
-                let a = r.range(0, 8);
-                (a, a + 500_000 + r.range(0, 8), 999_000 + r.range(0, 16))
+                let (a, length) = (r.range(0, 8), 500_000 + r.range(0, 8));
+                (a, a + length, length - r.range(0, 2))
             }
             11 => match r.below(3) {
                 0 => (WEEK - 1, WEEK, some_grams(r)),

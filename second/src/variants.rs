@@ -76,7 +76,7 @@ pub fn standing(house: &House, r: &mut Random) -> Vec<u8> {
     if r.once_in(2) {
         slots = permute_fans(house, &slots, r);
     }
-    if r.once_in(2) {
+    for _ in 0..r.pick(&[0, 0, 1, 1, 1, 4]) {
         slots = split(&slots, r);
     }
     plan_bytes(&house.classes, &slots)
