@@ -30,7 +30,8 @@ on-no : (a : Bool) (x : ℕ) → (T a → ⊥) → on a x ≡ 0
 on-no true x h = absurd (h tt)
 on-no false x h = refl
 
-product-pos : (p : ℕ) (f : ℕ → ℕ) → ((i : ℕ) → i < p → 0 < f i) → 0 < product p f
+-- a product of numbers above 0 is above 0
+pub product-pos : (p : ℕ) (f : ℕ → ℕ) → ((i : ℕ) → i < p → 0 < f i) → 0 < product p f
 unfolding product
 product-pos zero f h = omega arith
 product-pos (suc p) f h = mul-pos (product-pos p f (λ i q. h i (omega arith))) (h p (omega arith))
@@ -83,3 +84,8 @@ module _ (S : Setting) (G : House S) (topGrams topSeconds : ℕ) where
           let q = class-of (Z .dose i) (runs .in-dose i l) in
           own-slow S G Z runs p C c (product p Pl) speed fit (some q) rate-of same topGrams topSeconds (first q) i l;
     }
+
+    -- its pieces are those
+    pub own-pieces : (first : 0 < p → W S (C 0) * topSeconds ≤ P S (crew G) (C 0) * topGrams) → one-if-accepted first .pieces ≡ Z
+    unfolding one-if-accepted
+    own-pieces first = refl
