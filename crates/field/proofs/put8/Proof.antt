@@ -1,0 +1,22 @@
+use Rattle.model.specs.Records.{numberBytes}
+use Rattle.field.specs.Written.{written}
+use mathlib.Core.Path.{refl}
+use borrow.Author.Needs.{needs}
+use Rattle.field.proofs.put8.Statement.{statement}
+use Rattle.field.proofs.put8.Tie as tie
+
+cast-b : tie.Need-cast-b
+cast-b c = search needs
+
+slice-write-b : tie.Need-slice-write-b
+slice-write-b c = search needs
+
+same-length : tie.Need-same-length
+same-length c = search needs
+
+returns : tie.Need-returns
+unfolding written numberBytes
+returns c = refl
+
+pub put8-spec : {M : Type 1} → statement M
+put8-spec = tie.close (tie.spec cast-b slice-write-b same-length returns)

@@ -1,0 +1,157 @@
+-- The walk over the records. Assumes nothing.
+use Prim.Native.Nat.{ℕ, zero, suc, _+_, _-_, _*_, _%_, _<_, _≤_}
+use mathlib.Core.Path.{_≡_, refl, sym, ap, _∙_}
+use mathlib.Core.Bool.{Bool, true, false, _&&_}
+use mathlib.Core.List.{List, [], _∷_, _++_}
+use native.Mathlib.Omega.{arith}
+use native.Mathlib.Numerals.{add-one}
+use borrow.Author.Tests.{leb-true, leb-false}
+use lib.Dec.{eqb, leb}
+use lib.ListN.{length, getD, take, drop, length-take, length-drop, length-append}
+use Rattle.model.specs.Records.{pick, Reading, read, refused, andThen, blankAt, fansParts, doseParts, recordAt, readFrom}
+use Rattle.model.specs.Orders.{fansEntry, doseEntry, fansOf, doseOf, fansFit, doseFits, checked, entryOf, fansIn, dosesIn, noClash, clashesAny, orderOf, orderWith, readOrder}
+use Rattle.model.specs.Orders as orders
+use Rattle.order.proofs.Cases.{picked}
+use Rattle.order.specs.declared.Entry.{Entry}
+use Rattle.order.specs.declared.Entry.the-variants as is
+use Rattle.order.specs.declared.Order.{Order}
+use Rattle.order.specs.declared.Dose.{Dose}
+use Rattle.order.specs.declared.Sheet.{Sheet}
+use Rattle.order.specs.declared.Walked.{Walked}
+use Rattle.order.specs.Held.{heldEntry, heldOrder}
+use Rattle.order.specs.Sheets.{went, noSheet, withDose, withFans, withDoseAt, taken, takenOther, takenRefused, adding, walkedFrom}
+
+-- ---- a refusal has a number
+
+-- what is read has P, and a refusal's number is not 0
+pub data Each {A : Type 0} (P : A → Type 0) : Reading A → Type 0 where
+  reads : {a : A} → P a → Each P (read a)
+  refuses : {number place : ℕ} → Each P (refused (suc number) place)
+
+each-pick : {A : Type 0} {P : A → Type 0} (t : Bool) {x y : Reading A} → Each P x → Each P y → Each P (pick t x y)
+each-pick true p q = p
+each-pick false p q = q
+
+each-then : {A B : Type 0} {P : A → Type 0} {Q : B → Type 0} {x : Reading A} (f : A → Reading B) → Each P x
+    → ((a : A) → P a → Each Q (f a)) → Each Q (andThen x f)
+each-then f (reads p) g = g _ p
+each-then f refuses g = refuses
+
+each-map : {A : Type 0} {P Q : A → Type 0} {x : Reading A} → ((a : A) → P a → Q a) → Each P x → Each Q x
+each-map f (reads p) = reads (f _ p)
+each-map f refuses = refuses
+
+abbrev pub Any : {A : Type 0} → A → Type 0
+Any a = 0 < 1
+
+each-checked : (b f : Bool) (e : orders.Entry) (i : ℕ) → Each Any (checked b f e i)
+each-checked b f e i = each-pick b (each-pick f (reads (omega arith)) refuses) refuses
+
+pub each-entry : (r : List ℕ) (i : ℕ) → Each Any (entryOf r i)
+unfolding entryOf
+each-entry r i =
+    each-pick (eqb (getD r 0 0) 0x46) (each-checked (blankAt fansParts r 0) (fansFit (fansOf r)) (fansEntry (fansOf r)) i)
+    (each-pick (eqb (getD r 0 0) 0x44) (each-checked (blankAt doseParts r 0) (doseFits (doseOf r)) (doseEntry (doseOf r)) i) refuses)
+
+pub each-from : (bytes : List ℕ) (i n : ℕ) → Each Any (readFrom entryOf bytes i n)
+unfolding readFrom
+each-from bytes i zero = reads {a = []} (omega arith)
+each-from bytes i (suc n) =
+    each-then _ (each-entry _ i) (λ a p. each-then _ (each-from bytes (suc i) n) (λ l q. reads q))
+
+each-clash : (es : List orders.Entry) (ds : List orders.Dose) (i : ℕ)
+    → Each (λ (l : List orders.Dose). length l ≡ length ds + length (dosesIn es)) (noClash ds i es)
+unfolding noClash dosesIn
+each-clash [] ds i = reads {a = ds} (omega arith)
+each-clash (fansEntry f ∷ es) ds i = each-clash es ds (suc i)
+each-clash (doseEntry d ∷ es) ds i =
+    each-pick (clashesAny d ds) refuses
+    (each-map (λ (l : List orders.Dose) (e : length l ≡ length (ds ++ d ∷ []) + length (dosesIn es)). omega (arith, length-append ds (d ∷ [])))
+    (each-clash es (ds ++ d ∷ []) (suc i)))
+
+with-doses : (fs : List orders.Fans) (ds : List orders.Dose) → orderWith fs ds .doses ≡ ds
+with-doses [] ds = refl
+with-doses (f ∷ fs) ds = refl
+
+each-order : (es : List orders.Entry) → Each (λ (o : orders.Order). length (o .doses) ≤ 24) (orderOf es)
+unfolding orderOf
+each-order es =
+    each-pick (eqb (length (fansIn es)) 1)
+    (picked (Each (λ (o : orders.Order). length (o .doses) ≤ 24)) (leb (length (dosesIn es)) 24) _ (refused 7 0)
+    (λ e.
+    let few : length (dosesIn es) ≤ 24 = leb-true (length (dosesIn es)) 24 e in
+    each-then _ (each-clash es [] 0) (λ l q. let n : length l ≤ 24 = omega arith in reads {a = orderWith (fansIn es) l} (rw (with-doses (fansIn es) l) n)))
+    (λ e. refuses))
+    refuses
+
+-- an order that was read has at most 24 doses
+pub each-read : (bytes : List ℕ) → Each (λ (o : orders.Order). length (o .doses) ≤ 24) (readOrder bytes)
+unfolding readOrder
+each-read bytes = each-pick (eqb (length bytes % 32) 0 && leb (length bytes) 1600) (each-then orderOf (each-from bytes 0 _) (λ es p. each-order es)) refuses
+
+-- ---- one record
+
+-- the part of the bytes that is handed on for record k
+pub record-part : (bytes : List ℕ) (k : ℕ) → take (32 * k + 32 - 32 * k) (drop (32 * k) bytes) ≡ recordAt bytes k
+record-part bytes k = let e : 32 * k + 32 - 32 * k ≡ 32 = omega arith in rw e
+
+pub record-length : (bytes : List ℕ) (k : ℕ) → 32 * k + 32 ≤ length bytes → length (recordAt bytes k) ≡ 32
+record-length bytes k h = simp (length-take, length-drop) (omega arith)
+
+with-few : (o : Order) (d : Dose) → o .count ≤ 24 → withDose o d .count ≤ 24
+unfolding withDose
+with-few o d h =
+    picked (λ (n : Order). n .count ≤ 24) (leb 24 (o .count)) _ _ (λ e. h)
+    (λ e. let q : o .count < 24 = leb-false 24 (o .count) e in omega arith)
+
+-- a record adds at most one to each count
+pub counts : (s : Sheet) (k : ℕ) (e : Entry) → s .order .count ≤ 24
+    → (taken s k e .sheet .heads ≤ s .heads + 1) × (taken s k e .sheet .doses ≤ s .doses + 1) × (taken s k e .sheet .order .count ≤ 24)
+unfolding taken takenOther takenRefused withFans withDoseAt noSheet heldOrder
+counts s k (is.Fans f) h = (omega arith, omega arith, omega arith)
+counts s k (is.Dose d) h = (omega arith, omega arith, with-few (s .order) d h)
+counts s k (is.Refused x) h = (omega arith, omega arith, omega arith)
+
+-- ---- a turn of the walk
+
+-- record x, then the rest: a refusal stops the walk
+stops-at : (x : Reading orders.Entry) (rest : Reading (List orders.Entry)) (s : Sheet) (k : ℕ) → (taken s k (heldEntry x) .number ≡ 0 → ⊥)
+    → taken s k (heldEntry x) ≡ walkedFrom (andThen x (λ a. andThen rest (λ l. read (a ∷ l)))) k s
+unfolding taken takenOther takenRefused heldEntry walkedFrom
+stops-at (read (fansEntry f)) rest s k h = absurd (h refl)
+stops-at (read (doseEntry d)) rest s k h = absurd (h refl)
+stops-at (refused n p) rest s k h = refl
+
+-- and any other record is added to the sheet
+goes-at : (x : Reading orders.Entry) (rest : Reading (List orders.Entry)) (s : Sheet) (k : ℕ) → Each Any x → taken s k (heldEntry x) .number ≡ 0
+    → walkedFrom rest (suc k) (taken s k (heldEntry x) .sheet) ≡ walkedFrom (andThen x (λ a. andThen rest (λ l. read (a ∷ l)))) k s
+unfolding taken takenOther takenRefused heldEntry walkedFrom adding
+goes-at (read (fansEntry f)) (read l) s k n h = refl
+goes-at (read (fansEntry f)) (refused a b) s k n h = refl
+goes-at (read (doseEntry d)) (read l) s k n h = refl
+goes-at (read (doseEntry d)) (refused a b) s k n h = refl
+goes-at (refused a b) rest s k refuses h = absurd (let z : ⊥ = omega arith in z)
+
+pub stops : {w : Walked} (bytes : List ℕ) (k m : ℕ) (s : Sheet) → 0 < m → w ≡ taken s k (heldEntry (entryOf (recordAt bytes k) k))
+    → (w .number ≡ 0 → ⊥) → w ≡ walkedFrom (readFrom entryOf bytes k m) k s
+unfolding readFrom
+stops bytes k zero s h e f = absurd (let z : ⊥ = omega arith in z)
+stops bytes k (suc m) s h e f =
+    e ∙ stops-at (entryOf (recordAt bytes k) k) (readFrom entryOf bytes (suc k) m) s k (λ z. f (ap (λ (u : Walked). u .number) e ∙ z))
+
+pub goes : {w : Walked} (bytes : List ℕ) (k m : ℕ) (s : Sheet) → 0 < m → w ≡ taken s k (heldEntry (entryOf (recordAt bytes k) k))
+    → w .number ≡ 0 → walkedFrom (readFrom entryOf bytes (k + 1) (m - 1)) (k + 1) (w .sheet) ≡ walkedFrom (readFrom entryOf bytes k m) k s
+unfolding readFrom
+goes bytes k zero s h e f = absurd (let z : ⊥ = omega arith in z)
+goes {w} bytes k (suc m) s h e f =
+    let q : suc m - 1 ≡ m = omega arith in
+    let g = goes-at (entryOf (recordAt bytes k) k) (readFrom entryOf bytes (suc k) m) s k (each-entry _ k) (ap (λ (u : Walked). u .number) (sym e) ∙ f) in
+    rw (q, add-one k, e) g
+
+pub ends : (bytes : List ℕ) (k m : ℕ) (s : Sheet) → m ≡ 0 → went s ≡ walkedFrom (readFrom entryOf bytes k m) k s
+unfolding readFrom walkedFrom adding
+ends bytes k m s e = rw e
+
+pub empty : {s : Sheet} → s ≡ noSheet → (s .heads ≡ 0) × (s .doses ≡ 0) × (s .order .count ≡ 0)
+unfolding noSheet heldOrder
+empty e = rw e (refl, refl, refl)

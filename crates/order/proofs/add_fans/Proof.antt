@@ -1,0 +1,15 @@
+use mathlib.Core.Path.{refl}
+use Rattle.order.specs.Sheets.{withFans}
+use borrow.Author.Needs.{needs}
+use Rattle.order.proofs.add_fans.Statement.{statement}
+use Rattle.order.proofs.add_fans.Tie as tie
+
+add-t4 : tie.Need-add-t4
+add-t4 c = search needs
+
+returns : tie.Need-returns
+unfolding withFans
+returns c = refl
+
+pub add-fans-spec : {M : Type 1} → statement M
+add-fans-spec = tie.close (tie.spec add-t4 returns)

@@ -1,0 +1,20 @@
+use Rattle.order.proofs.Takes.{no-refusal, refusal}
+use Rattle.order.specs.Sheets.{takenRefused}
+use borrow.Author.Needs.{needs}
+use Rattle.order.proofs.refused_walk.Statement.{statement}
+use Rattle.order.proofs.refused_walk.Tie as tie
+
+no-sheet-requires : tie.Need-no-sheet-requires
+no-sheet-requires c κs = search needs
+
+enum-known-e : tie.Need-enum-known-e
+enum-known-e c = search needs
+
+returns : tie.Need-returns
+returns c = no-refusal _ (c .before .no-sheet .ensures) (c .match .keys2)
+
+returns-2 : tie.Need-returns-2
+returns-2 c = refusal (c .before .before .before .no-sheet .ensures) (c .before .e .given .1)
+
+pub refused-walk-spec : {M : Type 1} → statement M
+refused-walk-spec = tie.close (tie.spec no-sheet-requires enum-known-e returns returns-2)

@@ -1,0 +1,109 @@
+use mathlib.Core.List.{List}
+use Rattle.order.proofs.Walks.{record-part, record-length, counts, stops, goes, ends, empty}
+use Prim.Native.Nat.{ℕ, _≤_, _-_, _+_, _*_, _/_}
+use mathlib.Core.Path.{_≡_, refl, ap, _∙_, sym}
+use native.Mathlib.Omega.{arith}
+use native.Mathlib.Nat.{sub-zero}
+use borrow.Author.Needs.{needs}
+use lib.ListN.{length, take, drop, length-take, length-drop}
+use Rattle.model.specs.Records.{readFrom, recordAt}
+use Rattle.model.specs.Orders.{entryOf}
+use Rattle.order.specs.declared.Walked.{Walked}
+use Rattle.order.specs.Held.{heldEntry}
+use Rattle.order.specs.Sheets.{taken, noSheet, walkedFrom}
+use Rattle.order.proofs.Walks.{record-length, counts, stops, goes, ends, empty}
+use Rattle.order.proofs.walk.Statement.{statement}
+use Rattle.order.proofs.walk.Tie as tie
+
+abbrev Inv-loop : tie.InvT-loop
+Inv-loop bytes n s₀ k₀ s k = (k ≤ n) × (n ≡ length bytes / 32) × (s .heads ≤ k) × (s .doses ≤ k) × (s .order .count ≤ 24) × (walkedFrom (readFrom entryOf bytes k (n - k)) k s ≡ walkedFrom (readFrom entryOf bytes 0 n) 0 noSheet)
+
+abbrev μ-loop : tie.MeasureT-loop
+μ-loop bytes n s₀ k₀ s k = n - k
+
+no-sheet-requires : tie.Need-no-sheet-requires Inv-loop μ-loop
+no-sheet-requires c κs = tt
+
+loop-holds : tie.Need-loop-holds Inv-loop μ-loop
+loop-holds c =
+    let e = empty (c .no-sheet .ensures) in
+    (omega arith, refl, omega (arith, e .0), omega (arith, e .1), omega (arith, e .2), rw (sub-zero, c .no-sheet .ensures))
+
+mul-a : tie.Need-mul-a Inv-loop μ-loop
+mul-a c = omega arith
+
+add-e : tie.Need-add-e Inv-loop μ-loop
+add-e c = omega arith
+
+sub-add-record : tie.Need-sub-add-record Inv-loop μ-loop
+sub-add-record c = omega arith
+
+part-add-record-start : tie.Need-part-add-record-start Inv-loop μ-loop
+part-add-record-start c = search needs
+
+part-add-record-end : tie.Need-part-add-record-end Inv-loop μ-loop
+part-add-record-end c = search needs
+
+add-record-requires : tie.Need-add-record-requires Inv-loop μ-loop
+add-record-requires c κs = (
+  ap length (record-part (c .before .before .before .before .before .args .bytes .now) (c .before .before .loop .k)) ∙ record-length (c .before .before .before .before .before .args .bytes .now) (c .before .before .loop .k) (omega arith),
+  omega arith,
+  omega arith,
+  omega arith,
+  omega arith,
+)
+
+returns : tie.Need-returns Inv-loop μ-loop
+returns c =
+    stops _ _ _ _ (omega arith)
+    (c .before .before .add-record .ensures ∙ ap (λ (r : List ℕ). taken (c .before .before .before .before .before .loop .s) (c .before .before .before .before .before .loop .k) (heldEntry (entryOf r (c .before .before .before .before .before .loop .k)))) (record-part (c .before .before .before .before .before .before .before .before .args .bytes .now) (c .before .before .before .before .before .loop .k)))
+    (c .if1 .taken) ∙ c .before .before .before .before .before .loop .inv .5
+
+add-k : tie.Need-add-k Inv-loop μ-loop
+add-k c = omega arith
+
+loop-less : tie.Need-loop-less Inv-loop μ-loop
+loop-less c = omega arith
+
+loop-again : tie.Need-loop-again Inv-loop μ-loop
+loop-again c =
+    let L = c .before .before .before .before .before .before .loop in
+    let b = c .before .before .before .before .before .before .before .before .before .args .bytes .now in
+    let n = length b / 32 in
+    let e : c .before .before .before .add-record .result ≡ taken (L .s) (L .k) (heldEntry (entryOf (recordAt b (L .k)) (L .k))) =
+    c .before .before .before .add-record .ensures ∙ ap (λ (r : List ℕ). taken (L .s) (L .k) (heldEntry (entryOf r (L .k)))) (record-part b (L .k)) in
+    let h = ap (λ (w : Walked). w .sheet .heads) e in
+    let d = ap (λ (w : Walked). w .sheet .doses) e in
+    let m = ap (λ (w : Walked). w .sheet .order .count) e in
+    let t = counts (L .s) (L .k) (heldEntry (entryOf (recordAt b (L .k)) (L .k))) (L .inv .4) in
+    let q : n - (L .k + 1) ≡ n - L .k - 1 = omega arith in (
+      omega arith,
+      refl,
+      omega (arith, h, t .0),
+      omega (arith, d, t .1),
+      omega (arith, m, t .2),
+      rw q (goes _ _ _ _ (omega arith) e (c .before .if1 .left) ∙ L .inv .5),
+    )
+
+returns-2 : tie.Need-returns-2 Inv-loop μ-loop
+returns-2 c = ends _ _ _ _ (omega arith) ∙ c .before .loop .inv .5
+
+pub walk-spec : {M : Type 1} → statement M
+walk-spec =
+    tie.close
+    (tie.spec
+    Inv-loop
+    μ-loop
+    no-sheet-requires
+    loop-holds
+    mul-a
+    add-e
+    sub-add-record
+    part-add-record-start
+    part-add-record-end
+    add-record-requires
+    returns
+    add-k
+    loop-less
+    loop-again
+    returns-2)
