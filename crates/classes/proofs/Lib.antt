@@ -1,0 +1,4 @@
+pub mod Loops
+pub mod OneRound
+pub mod Same
+pub mod OnePhase

@@ -1,0 +1,36 @@
+use Prim.Native.Nat.{ℕ, _<_, _≤_, _+_, _-_, _*_, _/_, _%_, min}
+use mathlib.Core.Path.{_≡_, refl, sym, ap, _∙_}
+use mathlib.Core.Bool.{Bool, true, false, not, _&&_}
+use lib.ListN.{length, getD, set, length-set}
+use native.Mathlib.Omega.{arith}
+use borrow.Author.Needs.{needs}
+use Rattle.model.specs.Sets.{sum, on, weight}
+use Rattle.classes.specs.Sheet.{setOf, activeOf, rowOf, Below, choose, countIn}
+use Rattle.classes.proofs.Loops.{row-same, row-other}
+use borrow.Author.Needs.{needs}
+use Rattle.classes.proofs.reserve.Statement.{statement}
+use Rattle.classes.proofs.reserve.Tie as tie
+use Rattle.classes.proofs.reserve.Reads as reads
+use Rattle.classes.proofs.reserve.Lts as lts
+use Rattle.classes.proofs.counts_of.Reads as counts-of-reads
+
+counts-of-requires : tie.Need-counts-of-requires
+counts-of-requires c κs = search needs
+
+mul-row : tie.Need-mul-row
+mul-row c = search needs
+
+element-set-from-row : tie.Need-element-set-from-row
+element-set-from-row c = search needs
+
+returns : tie.Need-returns
+returns c =
+    let A = c .before .args in
+    record {
+      tall = simp length-set (c .before .pre .0);
+      own = λ j h. row-same (A .table .now) (A .class) (c .counts-of .result) (omega (arith, c .before .pre .0, c .before .pre .1)) j ∙ c .counts-of .ensures j h;
+      others = λ l j d. row-other (A .table .now) (A .class) (c .counts-of .result) l j d;
+    }
+
+pub reserve-spec : {M : Type 1} → statement M
+reserve-spec = tie.close (tie.spec counts-of-requires mul-row element-set-from-row returns)
