@@ -2,17 +2,17 @@
 use mathlib.Core.Bool.{Bool, true, false, _&&_}
 use mathlib.Core.List.{List, []}
 use mathlib.Core.Logic.{_≢_, inl, inr}
-use mathlib.Core.Path.{_≡_, refl, sym, _∙_}
-use Prim.Native.Nat.{ℕ, _+_, _*_, _<_, _≤_}
-use native.Mathlib.Nat.{mul-le-mul}
+use mathlib.Core.Path.{_≡_, refl, sym, ap, _∙_}
+use Prim.Native.Nat.{ℕ, zero, suc, _+_, _*_, _^_, _<_, _≤_}
+use native.Mathlib.Nat.{pow-suc, pow-le-pow-right}
 use native.Mathlib.Numerals.{add-one}
 use native.Mathlib.Omega.{arith}
-use lib.ListN.{length, getD, set, List·getD-eq-default}
+use lib.ListN.{length, getD, set, replicate, List·getD-eq-default}
 use lib.Seq.{getD-set-same, getD-set-other}
 use Rattle.model.specs.Sets.{sum, on, weight, Doses}
 use Rattle.model.proofs.Fractions.{compare≤}
 use Rattle.share.proofs.Laws.{alike, sum-next}
-use Rattle.classes.specs.Sheet.{Below, choose}
+use Rattle.classes.specs.Sheet.{Below}
 
 -- ---- sums
 
@@ -91,3 +91,25 @@ module _ (table : List (List ℕ)) (i : ℕ) (row : List ℕ) where
 
   pub row-other : (l j : ℕ) → l ≢ i → getD (getD (set table i row) l []) j 0 ≡ getD (getD table l []) j 0
   row-other l j d = rw (getD-set-other table i l row [] d)
+
+-- an array of zeros
+pub all-zero : (n k : ℕ) → _≡_ {A = ℕ} (getD (replicate n 0) k 0) 0
+all-zero zero k = refl
+all-zero (suc n) zero = refl
+all-zero (suc n) (suc k) = all-zero n k
+
+-- ---- a set as a number
+
+-- the bit of dose k
+pub bit-most : (k : ℕ) → k ≤ 24 → 2 ^ k ≤ 16777216
+bit-most k h = pow-le-pow-right {n = 2} (omega arith) h
+
+-- one bit more
+pub bits-next : (k s bit v : ℕ) (A : Doses) → s ≡ weight k (λ i. 2 ^ i) A → bit ≡ 2 ^ k → s < bit → v ≡ on (A k) bit
+    → (s + v ≡ weight (k + 1) (λ i. 2 ^ i) A) × (bit * 2 ≡ 2 ^ (k + 1)) × (s + v < bit * 2)
+unfolding weight
+bits-next k s bit v A e b h q = (
+  omega (arith, sum-next k (λ k. on (A k) (2 ^ k)), q ∙ ap (on (A k)) b),
+  ap (λ (y : ℕ). y * 2) b ∙ sym (ap (λ (m : ℕ). 2 ^ m) (add-one k) ∙ pow-suc 2 k),
+  omega (arith, on-at-most (A k) bit bit (omega arith)),
+)

@@ -1,16 +1,16 @@
 -- One phase: the tally so far with the next class is the tally so far. Assumes nothing.
 use mathlib.Core.Bool.{Bool, true, false, not, _&&_}
 use mathlib.Core.List.{List}
-use mathlib.Core.Logic.{_≢_, inl, inr}
+use mathlib.Core.Logic.{inl, inr}
 use mathlib.Core.Path.{_≡_, refl, sym, ap, ap₂, _∙_, subst}
-use Prim.Native.Nat.{ℕ, zero, suc, _+_, _-_, _*_, _/_, _<_, _≤_}
+use Prim.Native.Nat.{ℕ, zero, suc, _+_, _-_, _*_, _<_, _≤_}
 use native.Mathlib.Numerals.{add-one}
 use native.Mathlib.Omega.{arith}
-use borrow.Author.Tests.{eq-eqb, ne-eqb}
+use borrow.Author.Tests.{eq-eqb}
 use lib.Arith.{digits-div}
 use lib.Dec.{T, T-not, eqb, eqb→eq}
 use lib.ListN.{length, getD, replicate}
-use Rattle.model.specs.Sets.{sum, on, weight, Doses, Nonempty}
+use Rattle.model.specs.Sets.{sum, on, Doses, Nonempty}
 use Rattle.model.specs.Classes.{Setting, Row, W, P, NextClass, Classes, classP, reserved, remaining, free, openFans}
 use Rattle.model.specs.Shares.{Valid}
 use Rattle.model.proofs.Sums.{last, sum-congr}
@@ -18,7 +18,7 @@ use Rattle.model.proofs.Sets.{Alike, _∩_, and-left, and-right, and-both, same
 use Rattle.model.proofs.Sequence.{Found, found-none, found-more, found-all, remaining-alike, free-alike}
 use Rattle.share.specs.Share.{cell}
 use Rattle.classes.specs.declared.Tally.{Tally}
-use Rattle.classes.specs.Sheet.{setOf, activeOf, rowOf, settingFrom, Sheet, choose}
+use Rattle.classes.specs.Sheet.{setOf, activeOf, rowOf, settingFrom, choose}
 use Rattle.classes.specs.Round.{Measured, Chosen}
 use Rattle.classes.specs.Phase.{rowAt, classesIn, sharesIn, Reserved, After, KeptShares, SoFar}
 use Rattle.classes.proofs.Same.{fans-same, time-same, valid-same, next-same}

@@ -1,12 +1,11 @@
 -- The same doses, intervals and fans in other words: what is known of one setting is known of the other. Assumes nothing.
 use mathlib.Core.Bool.{Bool, _&&_}
 use mathlib.Core.Path.{_≡_, refl, sym, ap, ap₂, _∙_}
-use Prim.Native.Nat.{ℕ, zero, suc, _*_, _-_, _<_, _≤_, min}
+use Prim.Native.Nat.{ℕ, zero, suc, _*_, _-_, _<_, min}
 use native.Mathlib.Omega.{arith}
-use lib.Dec.{T}
-use Rattle.model.specs.Sets.{sum, on, weight, Doses, Sub, Nonempty}
+use Rattle.model.specs.Sets.{on, Doses, Sub}
 use Rattle.model.specs.Classes.{Setting, Row, W, P, openFans, NextClass, free, remaining, Classes}
-use Rattle.model.specs.Shares.{Valid, room, holds, need, got, given}
+use Rattle.model.specs.Shares.{Valid, room}
 use Rattle.model.proofs.Sums.{sum-congr}
 use Rattle.model.proofs.Sets.{Alike, alike-sub, alike-back, weight-congr, weight-alike}
 use Rattle.model.proofs.NextClass.{no-denser, as-dense, next-class}

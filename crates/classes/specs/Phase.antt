@@ -1,12 +1,12 @@
 -- The phases, one for each class.
 use mathlib.Core.Path.{_≡_}
-use mathlib.Core.Bool.{Bool, true, false, not, _&&_}
+use mathlib.Core.Bool.{Bool, false, not, _&&_}
 use mathlib.Core.Logic.{_≢_}
 use mathlib.Core.List.{List, []}
-use Prim.Native.Nat.{ℕ, _+_, _-_, _*_, _/_, _<_, _≤_}
+use Prim.Native.Nat.{ℕ, _+_, _/_, _<_, _≤_}
 use lib.Dec.{T, eqb}
 use lib.ListN.{length, getD}
-use Rattle.model.specs.Sets.{on, sum, Doses}
+use Rattle.model.specs.Sets.{on, Doses}
 use Rattle.model.specs.Classes.{Setting, Row, W, classP, remaining, free}
 use Rattle.model.specs.Classes as classes
 use Rattle.model.specs.Shares.{Valid}

@@ -2,14 +2,13 @@
 use mathlib.Core.Path.{_≡_}
 use mathlib.Core.Bool.{Bool, true, false}
 use mathlib.Core.List.{List}
-use Prim.Native.Nat.{ℕ, _*_, _<_, _≤_}
+use Prim.Native.Nat.{ℕ, _<_}
 use lib.ListN.{getD}
 use Rattle.model.specs.Sets.{Doses, Sub, Nonempty}
 use Rattle.model.specs.Classes.{Setting, Row, W, P, openFans, NextClass}
 use Rattle.model.specs.Shares.{Valid}
 use Rattle.model.proofs.Rounds.{Keeps}
 use Rattle.share.specs.Share.{cell}
-use Rattle.classes.specs.Sheet.{setOf, rowOf, settingFrom}
 
 -- a candidate: a set of remaining doses that keeps what the next class has
 pub record Candidate (S : Setting) (row : Row) (rest A : Doses) : Type 0 where

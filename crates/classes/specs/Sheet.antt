@@ -1,10 +1,10 @@
 -- The arrays in which classes are found: what stands in them, and the setting that they stand for.
 use mathlib.Core.Path.{_≡_}
-use mathlib.Core.Bool.{Bool, true, false, _&&_}
+use mathlib.Core.Bool.{Bool, true, false}
 use mathlib.Core.List.{List}
 use Prim.Native.Nat.{ℕ, _+_, _*_, _/_, _%_, _<_, _≤_, min}
 use lib.ListN.{getD}
-use Rattle.model.specs.Sets.{sum, on, weight, Doses}
+use Rattle.model.specs.Sets.{on, weight, Doses}
 use Rattle.model.specs.Classes.{Setting, Row}
 
 -- the set that an array of marks holds

@@ -1,47 +1,33 @@
 // The rate classes of an order and their shares (document 01, "From doses to classes"). Doses and intervals stand in arrays: dose k is
 // active in interval j at k * 47 + j, and nothing stands past the doses and the intervals.
+mod measure; // measure.rt: W, P and open fans of a set
+mod round; // round.rt: the next class
+mod sheet; // sheet.rt: an order in arrays
+mod table; // table.rt: reservations
+mod top; // top.rt: refusal 9
+
+use measure::size_of;
+use order::Order;
+use round::next_class;
+use sheet::active_in_order;
+use sheet::by_deadline;
+use sheet::grams_in;
+use sheet::interval_count;
+use sheet::lens_in;
+use sheet::wide;
+use table::free_fans;
+use table::reserve;
+use top::first_set;
+use top::not_above;
 ghost use mathlib.Core.Path.{_≡_};
 ghost use mathlib.Core.Bool.{false, true, not, _&&_};
-ghost use mathlib.Core.Logic.{_≢_};
-ghost use Prim.Native.Nat.{ℕ, _+_, _-_, _*_, _/_, _<_, _≤_, min};
+ghost use Prim.Native.Nat.{ℕ, _<_, _≤_};
 ghost use lib.ListN.{length, getD, replicate};
-ghost use Rattle.model.specs.Sets as sets;
-ghost use Rattle.model.specs.Sets.{sum, weight, Nonempty};
-ghost use Rattle.classes.specs.Sheet.{setOf, rowOf, Below, settingFrom, Sheet, choose, countIn, Opens, Rooms, Holds, Needs};
-ghost use Rattle.classes.specs.Round.{Measured, Tried, Chosen};
-ghost use Rattle.classes.specs.Phase.{rowAt, Reserved, After, KeptShares, SoFar};
-
-// v where the test holds, and 0 where not.
-fn on(test: bool, v: u64) -> u64
-    ensures { λ r. ⌜ r ≡ sets.on test v ⌝ }
-{
-    if test { v } else { 0 }
-}
-
-// a - b, or 0.
-fn less(a: u64, b: u64) -> u64
-    ensures { λ r. ⌜ r ≡ a - b ⌝ }
-{
-    if a < b { 0 } else { a - b }
-}
-
-fn wide(x: u8) -> u64
-    ensures { λ r. ⌜ (r ≡ x) × (r ≤ 255) ⌝ }
-{
-    x as u64
-}
-
-fn smaller(a: u64, b: u64) -> u64
-    ensures { λ r. ⌜ r ≡ min a b ⌝ }
-{
-    if a < b { a } else { b }
-}
-
-fn both(a: bool, b: bool) -> bool
-    ensures { λ r. ⌜ r ≡ (a && b) ⌝ }
-{
-    if a { b } else { false }
-}
+ghost use Rattle.model.proofs.Orders.{Fit};
+ghost use Rattle.order.specs.Held.{asOrder};
+ghost use Rattle.classes.specs.Sheet.{settingFrom, Sheet, choose};
+ghost use Rattle.classes.specs.Answer.{ClassesOf, SharesOf, AgainstTop};
+ghost use Rattle.classes.specs.Phase.{After, KeptShares, SoFar};
 
 fn without(a: bool, b: bool) -> bool
     ensures { λ r. ⌜ r ≡ (a && not b) ⌝ }
@@ -61,273 +47,12 @@ fn choose_number(test: bool, a: u8, b: u8) -> u8
     if test { a } else { b }
 }
 
-// "W(A) is the sum of grams of A."
-fn grams_of(grams: &[u64; 24], doses: usize, set: [bool; 24]) -> u64
-    requires { ⌜ (doses ≤ 24) × Below 1000000 (now grams) ⌝ }
-    ensures { λ r. ⌜ (r ≡ weight doses (λ k. getD (now (grams .entry)) k 0) (setOf set)) × (r ≤ 24000000) ⌝ }
-{
-    let mut sum: u64 = 0;
-    let mut k = 0;
-    while k < doses {
-        sum += on(set[k], grams[k]);
-        k += 1;
-    }
-    sum
-}
-
-// How many doses are in the set.
-fn size_of(doses: usize, set: [bool; 24]) -> u64
-    requires { ⌜ doses ≤ 24 ⌝ }
-    ensures { λ r. ⌜ (r ≡ weight doses (λ k. 1) (setOf set)) × (r ≤ doses) ⌝ }
-{
-    let mut sum: u64 = 0;
-    let mut k = 0;
-    while k < doses {
-        sum += on(set[k], 1);
-        k += 1;
-    }
-    sum
-}
-
-// "(active doses of A)", in interval j.
-fn active_in(active: &[bool; 1128], doses: usize, set: [bool; 24], j: usize) -> u64
-    requires { ⌜ (doses ≤ 24) × (j < 47) ⌝ }
-    ensures { λ r. ⌜ (r ≡ countIn (now (active .entry)) doses set j) × (r ≤ 24) ⌝ }
-{
-    let mut sum: u64 = 0;
-    let mut k = 0;
-    while k < doses {
-        sum += on(set[k], on(active[k * 47 + j], 1));
-        k += 1;
-    }
-    sum
-}
-
-// "the smaller of (active doses of A) and (fans − fans reserved by earlier classes)", for each interval.
-fn open_fans(active: &[bool; 1128], doses: usize, set: [bool; 24], free: [u64; 47]) -> [u64; 47]
-    requires { ⌜ doses ≤ 24 ⌝ }
-    ensures { λ r. ⌜ Opens (now (active .entry)) doses set free r × Below 24 r ⌝ }
-{
-    let mut reserved = [0u64; 47];
-    let mut j = 0;
-    while j < 47 {
-        reserved[j] = smaller(active_in(active, doses, set, j), free[j]);
-        j += 1;
-    }
-    reserved
-}
-
-// "P(A) its reserved fan time": "the sum over intervals of length × the smaller of" the two.
-fn fan_time(lens: &[u64; 47], intervals: usize, reserved: [u64; 47]) -> u64
-    requires { ⌜ (intervals ≤ 47) × Below 604800 (now lens) × Below 24 reserved ⌝ }
-    ensures { λ r. ⌜ (r ≡ sum intervals (λ j. getD (now (lens .entry)) j 0 * getD reserved j 0)) × (r ≤ 1000000000) ⌝ }
-{
-    let mut sum: u64 = 0;
-    let mut j = 0;
-    while j < intervals {
-        sum += lens[j] * reserved[j];
-        j += 1;
-    }
-    sum
-}
-
-// "Its share in an interval of length L is at most L × W units, only where it is active."
-fn rooms_of(active: &[bool; 1128], lens: &[u64; 47], set: [bool; 24], w: u64) -> [u64; 1128]
-    requires { ⌜ Below 604800 (now lens) × (w ≤ 24000000) ⌝ }
-    ensures { λ r. ⌜ Rooms (now (active .entry)) (now (lens .entry)) set w r ⌝ }
-{
-    let mut rooms = [0u64; 1128];
-    let mut i = 0;
-    while i < 1128 {
-        rooms[i] = on(set[i / 47], on(active[i], lens[i % 47] * w));
-        i += 1;
-    }
-    rooms
-}
-
-// "its reserved fans × L × W".
-fn holds_of(lens: &[u64; 47], reserved: [u64; 47], w: u64) -> [u64; 47]
-    requires { ⌜ Below 604800 (now lens) × Below 24 reserved × (w ≤ 24000000) ⌝ }
-    ensures { λ r. ⌜ Holds (now (lens .entry)) reserved w r ⌝ }
-{
-    let mut holds = [0u64; 47];
-    let mut j = 0;
-    while j < 47 {
-        holds[j] = reserved[j] * (lens[j] * w);
-        j += 1;
-    }
-    holds
-}
-
-// "A dose of w grams in a class with W and P needs w × P units."
-fn needs_of(grams: &[u64; 24], set: [bool; 24], p: u64) -> [u64; 24]
-    requires { ⌜ Below 1000000 (now grams) × (p ≤ 1000000000) ⌝ }
-    ensures { λ r. ⌜ Needs (now (grams .entry)) set p r ⌝ }
-{
-    let mut needs = [0u64; 24];
-    let mut k = 0;
-    while k < 24 {
-        needs[k] = on(set[k], grams[k] * p);
-        k += 1;
-    }
-    needs
-}
-
-// The doses of the set that are dead: no chain leads out of them.
-fn dead_part(dead: [bool; 71], set: [bool; 24]) -> [bool; 24]
-    ensures { λ r. ⌜ ((k : ℕ) → getD r k false ≡ (getD dead k false && getD set k false)) ⌝ }
-{
-    let mut part = [false; 24];
-    let mut k = 0;
-    while k < 24 {
-        part[k] = both(dead[k], set[k]);
-        k += 1;
-    }
-    part
-}
-
-// A candidate for the next class: whether its needs are met, and if not, the next candidate.
-struct Round {
-    met: bool,
-    part: [bool; 24],
-    grams: u64,
-    time: u64,
-    reserved: [u64; 47],
-}
-
-// One round: the candidate's shares in x.
-fn try_candidate(
-    x: &mut [u64],
-    active: &[bool; 1128],
-    lens: &[u64; 47],
-    grams: &[u64; 24],
-    doses: usize,
-    intervals: usize,
-    free: [u64; 47],
-    set: [bool; 24],
-    sequence: [usize; 24],
-) -> Round
-    requires { ⌜ (length (now x) ≡ 1128) × Sheet doses intervals (now active) (now lens) (now grams) ⌝ }
-    ensures { λ r. ⌜ Measured (settingFrom doses intervals (now (active .entry)) (now (lens .entry)) (now (grams .entry))) (rowOf free) (setOf set) (r .grams) (r .time) (r .reserved) × Below 24 (r .reserved) × Tried (settingFrom doses intervals (now (active .entry)) (now (lens .entry)) (now (grams .entry))) (rowOf free) (setOf set) (now (x .exit)) (r .met) (setOf (r .part)) ⌝ }
-{
-    let w = grams_of(grams, doses, set);
-    let reserved = open_fans(active, doses, set, free);
-    let p = fan_time(lens, intervals, reserved);
-    let rooms = rooms_of(active, lens, set, w);
-    let holds = holds_of(lens, reserved, w);
-    let needs = needs_of(grams, set, p);
-    let dead = share::find_shares(x, &rooms, &holds, &needs, sequence);
-    let met = share::all_met(x, &needs);
-    let part = dead_part(dead, set);
-    Round {
-        met,
-        part,
-        grams: w,
-        time: p,
-        reserved,
-    }
-}
-
 // The next class: its doses, W and P, and the fans that it reserves.
 pub struct Class {
     pub members: [bool; 24],
     pub grams: u64,
     pub time: u64,
     pub reserved: [u64; 47],
-}
-
-// "The next class is the set with the greatest W/P among nonempty sets of remaining doses": rounds, from all of them to a part whose needs are
-// met. Its shares are in x.
-fn next_class(
-    x: &mut [u64],
-    active: &[bool; 1128],
-    lens: &[u64; 47],
-    grams: &[u64; 24],
-    doses: usize,
-    intervals: usize,
-    free: [u64; 47],
-    remaining: [bool; 24],
-    sequence: [usize; 24],
-) -> Class
-    requires { ⌜ (length (now x) ≡ 1128) × Sheet doses intervals (now active) (now lens) (now grams) × Nonempty doses (setOf remaining) ⌝ }
-    ensures { λ r. ⌜ Measured (settingFrom doses intervals (now (active .entry)) (now (lens .entry)) (now (grams .entry))) (rowOf free) (setOf (r .members)) (r .grams) (r .time) (r .reserved) × Below 24 (r .reserved) × Chosen (settingFrom doses intervals (now (active .entry)) (now (lens .entry)) (now (grams .entry))) (rowOf free) (setOf remaining) (setOf (r .members)) (now (x .exit)) ⌝ }
-{
-    let mut set = remaining;
-    loop {
-        let round = try_candidate(
-            x,
-            active,
-            lens,
-            grams,
-            doses,
-            intervals,
-            free,
-            set,
-            sequence,
-        );
-        let part = round.part;
-        if round.met {
-            let reserved = round.reserved;
-            return Class {
-                members: set,
-                grams: round.grams,
-                time: round.time,
-                reserved,
-            };
-        }
-        set = part;
-    }
-}
-
-// The fans that the first classes reserve in interval j.
-fn reserved_before(table: &[[u8; 47]; 24], classes: usize, j: usize) -> u64
-    requires { ⌜ (classes ≤ 24) × (j < 47) ⌝ }
-    ensures { λ r. ⌜ (r ≡ sum classes (λ i. rowAt (now (table .entry)) i j)) ⌝ }
-{
-    let mut sum: u64 = 0;
-    let mut i = 0;
-    while i < classes {
-        sum += wide(table[i][j]);
-        i += 1;
-    }
-    sum
-}
-
-// "fans − fans reserved by earlier classes", for each interval.
-fn free_fans(table: &[[u8; 47]; 24], fans: u64, classes: usize) -> [u64; 47]
-    requires { ⌜ classes ≤ 24 ⌝ }
-    ensures { λ r. ⌜ ((j : ℕ) → j < 47 → getD r j 0 ≡ fans - sum classes (λ i. rowAt (now (table .entry)) i j)) ⌝ }
-{
-    let mut free = [0u64; 47];
-    let mut j = 0;
-    while j < 47 {
-        free[j] = less(fans, reserved_before(table, classes, j));
-        j += 1;
-    }
-    free
-}
-
-// Fans as small counts.
-fn counts_of(reserved: [u64; 47]) -> [u8; 47]
-    requires { ⌜ Below 24 reserved ⌝ }
-    ensures { λ r. ⌜ ((j : ℕ) → j < 47 → getD r j 0 ≡ getD reserved j 0) ⌝ }
-{
-    let mut counts = [0u8; 47];
-    let mut j = 0;
-    while j < 47 {
-        counts[j] = reserved[j] as u8;
-        j += 1;
-    }
-    counts
-}
-
-// "The class reserves, per interval, the smaller of the two numbers above": its row of the table.
-fn reserve(table: &mut [[u8; 47]; 24], class: usize, reserved: [u64; 47])
-    requires { ⌜ (length (now table) ≡ 24) × (class < 24) × Below 24 reserved ⌝ }
-    ensures { λ r. ⌜ Reserved class reserved (now (table .entry)) (now (table .exit)) ⌝ }
-{
-    let row = counts_of(reserved);
-    table[class] = row;
 }
 
 // The shares of the class's doses are kept; those of other doses stay.
@@ -485,4 +210,65 @@ fn phases(
         );
     }
     tally
+}
+
+// What refusal 9 answers: whether the first class is above the top rate, and if so the class as a set, its W and P.
+pub struct TooFast {
+    pub above: bool,
+    pub set: u64,
+    pub grams: u64,
+    pub time: u64,
+}
+
+// The classes of an order, with the table of reservations and the shares of every class: dose k's in interval j at k * 47 + j.
+pub fn classes_of(o: Order, shares: &mut [u64; 1128], table: &mut [[u8; 47]; 24]) -> Tally
+    requires { ⌜ Fit (asOrder o) ⌝ }
+    ensures { λ r. ⌜ ClassesOf (asOrder o) r × SharesOf (asOrder o) r (now (table .exit)) (now (shares .exit)) ⌝ }
+{
+    let doses = o.count;
+    let fans = o.fans;
+    let instants = interval::instants_of(o);
+    let intervals = interval_count(instants);
+    let active = active_in_order(o, instants, intervals);
+    let lens = lens_in(instants);
+    let grams = grams_in(o);
+    let sequence = by_deadline(o);
+    let mut own = [0u64; 1128];
+    let mut rows = [[0u8; 47]; 24];
+    let tally = phases(
+        &mut own,
+        &mut rows,
+        &active,
+        &lens,
+        &grams,
+        doses,
+        intervals,
+        fans as u64,
+        sequence,
+    );
+    *shares = own;
+    *table = rows;
+    tally
+}
+
+// Refusal 9: "first class: W × top seconds above P × top grams", by exact products.
+pub fn too_fast(o: Order, t: Tally) -> TooFast
+    requires { ⌜ Fit (asOrder o) × ClassesOf (asOrder o) t ⌝ }
+    ensures { λ r. ⌜ AgainstTop (asOrder o) r ⌝ }
+{
+    if t.class == 0 {
+        return not_above();
+    }
+    let w = t.grams[0];
+    let p = t.time[0];
+    if w * wide(o.top_seconds) <= p * wide(o.top_grams) {
+        return not_above();
+    }
+    let numbers = t.numbers;
+    TooFast {
+        above: true,
+        set: first_set(numbers, o.count),
+        grams: w,
+        time: p,
+    }
 }

@@ -8,8 +8,8 @@ use mathlib.Core.Logic.{inl, inr}
 use lib.ListN.{getD}
 use lib.Dec.{T}
 use native.Mathlib.Omega.{arith}
-use Rattle.model.specs.Sets.{sum, on, weight, Doses, Sub, Nonempty}
-use Rattle.model.specs.Classes.{Setting, Row, W, P, openFans, NextClass}
+use Rattle.model.specs.Sets.{on, weight, Doses, Sub, Nonempty}
+use Rattle.model.specs.Classes.{Setting, Row, W, NextClass}
 use Rattle.model.specs.Shares as model
 use Rattle.model.proofs.Sums.{sum-congr, sum-past, sum-zero}
 use Rattle.model.proofs.Sets.{and-left, and-right, and-both, on-pos, on-yes, le-weight}

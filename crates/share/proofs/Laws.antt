@@ -4,9 +4,9 @@ use Prim.Native.Nat.{ℕ, zero, suc, _+_, _-_, _*_, _<_, _≤_}
 use mathlib.Core.List.{List, [], _∷_}
 use mathlib.Core.Bool.{Bool, true, false}
 use mathlib.Core.Path.{_≡_, refl, sym, ap, _∙_}
-use mathlib.Core.Logic.{_≢_, _⊎_, inl, inr}
+use mathlib.Core.Logic.{_≢_}
 use lib.ListN.{length, getD, set, replicate}
-use lib.Seq.{getD-set-same, getD-set-other}
+use lib.Seq.{getD-set-other}
 use lib.Dec.{eqb}
 use borrow.Author.Tests.{eqb-true, eqb-false}
 use native.Mathlib.Numerals.{add-one}
@@ -14,7 +14,7 @@ use native.Mathlib.Omega.{arith}
 use Rattle.model.specs.Sets.{sum}
 use Rattle.model.proofs.Sums.{sum-congr, sum-up, sum-zero}
 use Rattle.share.proofs.Cells.{at-same, at-other-row, at-other-col, row-change, col-change, row-other, col-other, cell-row, cell-col}
-use Rattle.share.specs.Share.{unseenCount, cell, Seen, Unseen, got, given, Bounded, Kept, Exhausted, Pushed, DoseUp, IntervalDown, DoseRaised, Dead, Within, Raised}
+use Rattle.share.specs.Share.{unseenCount, cell, Seen, Unseen, got, given, Bounded, Kept, Exhausted, DoseUp, IntervalDown, DoseRaised, Dead, Within, Raised}
 
 pub not-both : {b : Bool} → b ≡ true → b ≡ false → ⊥
 not-both {b} p q = let z : true ≡ false = sym p ∙ q in let y : _≡_ {A = ℕ} 0 1 = cc in omega arith

@@ -1,17 +1,13 @@
-use Prim.Native.Nat.{ℕ, _<_, _≤_, _+_, _-_, _*_, _/_, _%_, min}
-use mathlib.Core.Path.{_≡_, refl, sym, ap, _∙_}
-use mathlib.Core.Bool.{Bool, true, false, not, _&&_}
-use lib.ListN.{length, getD, set, length-set}
+use Prim.Native.Nat.{ℕ, _<_, _≤_, _-_, _/_}
+use mathlib.Core.Path.{_≡_, refl, ap, _∙_}
+use mathlib.Core.Bool.{false}
+use lib.ListN.{length, getD, length-set}
 use native.Mathlib.Omega.{arith}
 use borrow.Author.Needs.{needs}
-use Rattle.model.specs.Sets.{sum, on, weight}
-use Rattle.classes.specs.Sheet.{setOf, activeOf, rowOf, Below, choose, countIn}
+use Rattle.classes.specs.Sheet.{choose}
 use Rattle.classes.proofs.Loops.{stored, unreached}
 use Rattle.classes.proofs.keep_shares.Statement.{statement}
 use Rattle.classes.proofs.keep_shares.Tie as tie
-use Rattle.classes.proofs.keep_shares.Reads as reads
-use Rattle.classes.proofs.keep_shares.Lts as lts
-use Rattle.classes.proofs.choose_share.Reads as choose-share-reads
 
 abbrev Inv-loop : tie.InvT-loop
 Inv-loop shares₀ x members i₀ shares i = (i ≤ 1128) × (length shares ≡ 1128) × ((m : ℕ) → m < i → getD shares m 0 ≡ choose (getD members (m / 47) false) (getD x m 0) (getD shares₀ m 0)) × ((m : ℕ) → i ≤ m → getD shares m 0 ≡ getD shares₀ m 0)

@@ -1,17 +1,12 @@
-use Prim.Native.Nat.{ℕ, _<_, _≤_, _+_, _-_, _*_, _/_, _%_, min}
-use mathlib.Core.Path.{_≡_, refl, sym, ap, _∙_}
-use mathlib.Core.Bool.{Bool, true, false, not, _&&_}
-use lib.ListN.{length, getD, set, length-set}
+use Prim.Native.Nat.{ℕ, _<_, _≤_, _-_}
+use mathlib.Core.Path.{_≡_}
+use mathlib.Core.Bool.{false, not, _&&_}
+use lib.ListN.{length, getD, length-set}
 use native.Mathlib.Omega.{arith}
 use borrow.Author.Needs.{needs}
-use Rattle.model.specs.Sets.{sum, on, weight}
-use Rattle.classes.specs.Sheet.{setOf, activeOf, rowOf, Below, choose, countIn}
 use Rattle.classes.proofs.Loops.{stored}
 use Rattle.classes.proofs.left_of.Statement.{statement}
 use Rattle.classes.proofs.left_of.Tie as tie
-use Rattle.classes.proofs.left_of.Reads as reads
-use Rattle.classes.proofs.left_of.Lts as lts
-use Rattle.classes.proofs.without.Reads as without-reads
 
 abbrev Inv-loop : tie.InvT-loop
 Inv-loop remaining members left₀ k₀ left k = (k ≤ 24) × (length left ≡ 24) × ((m : ℕ) → m < k → getD left m false ≡ (getD remaining m false && not (getD members m false)))

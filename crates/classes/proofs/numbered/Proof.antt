@@ -1,17 +1,13 @@
-use Prim.Native.Nat.{ℕ, _<_, _≤_, _+_, _-_, _*_, _/_, _%_, min}
-use mathlib.Core.Path.{_≡_, refl, sym, ap, _∙_}
-use mathlib.Core.Bool.{Bool, true, false, not, _&&_}
-use lib.ListN.{length, getD, set, length-set}
+use Prim.Native.Nat.{ℕ, _<_, _≤_, _-_}
+use mathlib.Core.Path.{_≡_}
+use mathlib.Core.Bool.{false}
+use lib.ListN.{length, getD, length-set}
 use native.Mathlib.Omega.{arith}
 use borrow.Author.Needs.{needs}
-use Rattle.model.specs.Sets.{sum, on, weight}
-use Rattle.classes.specs.Sheet.{setOf, activeOf, rowOf, Below, choose, countIn}
+use Rattle.classes.specs.Sheet.{choose}
 use Rattle.classes.proofs.Loops.{stored}
 use Rattle.classes.proofs.numbered.Statement.{statement}
 use Rattle.classes.proofs.numbered.Tie as tie
-use Rattle.classes.proofs.numbered.Reads as reads
-use Rattle.classes.proofs.numbered.Lts as lts
-use Rattle.classes.proofs.choose_number.Reads as choose-number-reads
 
 abbrev Inv-loop : tie.InvT-loop
 Inv-loop class before members numbers₀ k₀ numbers k = (k ≤ 24) × (length numbers ≡ 24) × ((m : ℕ) → m < k → getD numbers m 0 ≡ choose (getD members m false) class (getD before m 0))

@@ -1,22 +1,10 @@
-use Prim.Native.Nat.{ℕ, _<_, _≤_, _+_, _-_, _*_, _/_, _%_, min}
-use mathlib.Core.Path.{_≡_, refl, sym, ap, _∙_}
-use mathlib.Core.Bool.{Bool, true, false, not, _&&_}
-use lib.ListN.{length, getD, set, length-set}
+use mathlib.Core.Path.{refl}
 use native.Mathlib.Omega.{arith}
 use borrow.Author.Needs.{needs}
-use Rattle.model.specs.Sets.{sum, on, weight}
 use Rattle.classes.proofs.OnePhase.{some-remain, some-size, so-far-next}
 use Rattle.classes.specs.Sheet.{setOf}
-use borrow.Author.Needs.{needs}
 use Rattle.classes.proofs.phase.Statement.{statement}
 use Rattle.classes.proofs.phase.Tie as tie
-use Rattle.classes.proofs.phase.Reads as reads
-use Rattle.classes.proofs.phase.Lts as lts
-use Rattle.classes.proofs.Tally.after.Reads as after-reads
-use Rattle.classes.proofs.free_fans.Reads as free-fans-reads
-use Rattle.classes.proofs.keep_shares.Reads as keep-shares-reads
-use Rattle.classes.proofs.next_class.Reads as next-class-reads
-use Rattle.classes.proofs.reserve.Reads as reserve-reads
 
 free-fans-requires : tie.Need-free-fans-requires
 free-fans-requires c κs = search needs

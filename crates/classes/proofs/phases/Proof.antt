@@ -1,19 +1,13 @@
-use Prim.Native.Nat.{ℕ, _<_, _≤_, _+_, _-_, _*_, _/_, _%_, min}
-use mathlib.Core.Path.{_≡_, refl, sym, ap, _∙_}
-use mathlib.Core.Bool.{Bool, true, false, not, _&&_}
-use lib.ListN.{length, getD, set, length-set}
+use Prim.Native.Nat.{_≤_, _-_}
+use mathlib.Core.Path.{_≡_}
+use lib.ListN.{length}
 use native.Mathlib.Omega.{arith}
 use borrow.Author.Needs.{needs}
-use Rattle.model.specs.Sets.{sum, on, weight}
 use Rattle.classes.specs.Sheet.{settingFrom}
 use Rattle.classes.specs.Phase.{SoFar}
 use Rattle.classes.proofs.OnePhase.{so-far-start}
 use Rattle.classes.proofs.phases.Statement.{statement}
 use Rattle.classes.proofs.phases.Tie as tie
-use Rattle.classes.proofs.phases.Reads as reads
-use Rattle.classes.proofs.phases.Lts as lts
-use Rattle.classes.proofs.Tally.start.Reads as start-reads
-use Rattle.classes.proofs.phase.Reads as phase-reads
 
 abbrev Inv-loop : tie.InvT-loop
 Inv-loop shares₀ table₀ active lens grams doses intervals fans sequence tally₀ shares table tally = (length shares ≡ 1128) × (tally .classed ≤ doses) × SoFar (settingFrom doses intervals active lens grams) (λ j. fans) tally table shares

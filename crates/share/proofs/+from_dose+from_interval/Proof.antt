@@ -1,13 +1,13 @@
 use Prim.Native.Nat.{ℕ, _<_, _≤_, _+_, _-_, _*_}
-use mathlib.Core.Path.{_≡_, refl, sym, ap, _∙_}
+use mathlib.Core.Path.{_≡_, refl, _∙_}
 use mathlib.Core.Bool.{true, false}
-use lib.ListN.{length, getD, set, length-set}
+use lib.ListN.{length, set, length-set}
 use lib.Seq.{getD-set-same}
 use native.Mathlib.Omega.{arith}
 use borrow.Author.Needs.{needs}
 use borrow.Author.Count.{below-more}
-use Rattle.share.specs.Share.{unseenCount, Seen, cell, got, given, Bounded, Sized, Kept, Exhausted, Pushed}
-use Rattle.share.proofs.Laws.{not-both, fewer, marked, falls-to, kept-refl, kept-trans, kept-mark, kept-write, exhausted-none, exhausted-trans, exhausted-dose, exhausted-interval, bounded-same, dose-still, interval-still, dose-write, interval-write, interval-none, down-from, up-from, sum-fits, spare-fits, no-spare}
+use Rattle.share.specs.Share.{unseenCount, Seen, cell, given, Kept, Exhausted}
+use Rattle.share.proofs.Laws.{not-both, marked, falls-to, kept-refl, kept-trans, kept-mark, kept-write, exhausted-none, exhausted-trans, exhausted-dose, exhausted-interval, bounded-same, dose-still, interval-still, dose-write, interval-write, interval-none, down-from, up-from, sum-fits, spare-fits, no-spare}
 use borrow.Fn.Kinds.{In}
 use borrow.Fn.PlainCycle.{Measures, is, falls, and}
 use Rattle.share.proofs.from_dose.Reads as from-dose

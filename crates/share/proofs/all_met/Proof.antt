@@ -1,7 +1,6 @@
-use Prim.Native.Nat.{ℕ, _<_, _≤_, _+_, _-_, _*_}
-use mathlib.Core.Path.{_≡_, refl, sym, ap, _∙_}
-use mathlib.Core.Bool.{true, false}
-use lib.ListN.{length, getD}
+use Prim.Native.Nat.{ℕ, _<_, _≤_, _-_}
+use mathlib.Core.Path.{_≡_, refl}
+use lib.ListN.{getD}
 use native.Mathlib.Omega.{arith}
 use borrow.Author.Needs.{needs}
 use borrow.Author.Count.{below-more}
@@ -9,9 +8,6 @@ use Rattle.share.specs.Share.{got}
 use Rattle.share.proofs.Laws.{not-both}
 use Rattle.share.proofs.all_met.Statement.{statement}
 use Rattle.share.proofs.all_met.Tie as tie
-use Rattle.share.proofs.all_met.Reads as reads
-use Rattle.share.proofs.all_met.Lts as lts
-use Rattle.share.proofs.dose_total.Reads as dose-total-reads
 
 abbrev Inv-loop : tie.InvT-loop
 Inv-loop x needs k₀ k = (k ≤ 24) × ((i : ℕ) → i < k → got x i ≡ getD needs i 0)

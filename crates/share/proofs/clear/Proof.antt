@@ -1,14 +1,12 @@
-use Prim.Native.Nat.{ℕ, _<_, _≤_, _+_, _-_, _*_}
-use mathlib.Core.Path.{_≡_, refl, sym, ap, _∙_}
-use lib.ListN.{length, getD, set, length-set}
+use Prim.Native.Nat.{ℕ, _<_, _≤_, _-_}
+use mathlib.Core.Path.{_≡_, _∙_}
+use lib.ListN.{length, getD, length-set}
 use native.Mathlib.Omega.{arith}
 use lib.Seq.{getD-set-same, getD-set-other}
 use borrow.Author.Needs.{needs}
 use Rattle.share.proofs.Laws.{alike}
 use Rattle.share.proofs.clear.Statement.{statement}
 use Rattle.share.proofs.clear.Tie as tie
-use Rattle.share.proofs.clear.Reads as reads
-use Rattle.share.proofs.clear.Lts as lts
 
 abbrev Inv-loop : tie.InvT-loop
 Inv-loop x₀ i₀ x i = (i ≤ 1128) × (length x ≡ 1128) × ((k : ℕ) → k < i → getD x k 0 ≡ 0)

@@ -1,18 +1,12 @@
-use Prim.Native.Nat.{ℕ, _<_, _≤_, _+_, _-_, _*_}
+use Prim.Native.Nat.{_≤_, _-_}
 use mathlib.Core.Path.{_≡_}
 use lib.ListN.{length}
 use native.Mathlib.Omega.{arith}
 use borrow.Author.Needs.{needs}
-use Rattle.share.specs.Share.{Sized, Within}
+use Rattle.share.specs.Share.{Within}
 use Rattle.share.proofs.Laws.{within-none}
 use Rattle.share.proofs.find_shares.Statement.{statement}
 use Rattle.share.proofs.find_shares.Tie as tie
-use Rattle.share.proofs.find_shares.Reads as reads
-use Rattle.share.proofs.find_shares.Lts as lts
-use Rattle.share.proofs.clear.Reads as clear-reads
-use Rattle.share.proofs.first_shares.Reads as first-shares-reads
-use Rattle.share.proofs.largest_need.Reads as largest-need-reads
-use Rattle.share.proofs.raise.Reads as raise-reads
 
 abbrev Inv-loop : tie.InvT-loop
 Inv-loop x₀ rooms holds needs order i₀ x i = (i ≤ 24) × (length x ≡ 1128) × Within rooms holds needs x

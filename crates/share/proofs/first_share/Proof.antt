@@ -1,17 +1,9 @@
-use Prim.Native.Nat.{ℕ, _<_, _≤_, _+_, _-_, _*_}
-use mathlib.Core.Path.{_≡_, refl, sym, ap, _∙_}
-use lib.ListN.{length, getD, set, length-set}
+use Prim.Native.Nat.{_+_, _*_}
 use native.Mathlib.Omega.{arith}
 use Rattle.share.proofs.Laws.{within-more}
 use borrow.Author.Needs.{needs}
 use Rattle.share.proofs.first_share.Statement.{statement}
 use Rattle.share.proofs.first_share.Tie as tie
-use Rattle.share.proofs.first_share.Reads as reads
-use Rattle.share.proofs.first_share.Lts as lts
-use Rattle.share.proofs.gap.Reads as gap-reads
-use Rattle.share.proofs.dose_total.Reads as dose-total-reads
-use Rattle.share.proofs.interval_total.Reads as interval-total-reads
-use Rattle.share.proofs.smaller.Reads as smaller-reads
 
 mul-at : tie.Need-mul-at
 mul-at c = search needs

@@ -1,14 +1,11 @@
-use Prim.Native.Nat.{ℕ, _<_, _≤_, _+_, _-_, _*_}
-use mathlib.Core.Path.{_≡_, refl, sym, ap, _∙_}
-use lib.ListN.{length, getD, set, length-set}
+use Prim.Native.Nat.{_≤_, _-_}
+use mathlib.Core.Path.{_≡_}
+use lib.ListN.{length}
 use native.Mathlib.Omega.{arith}
 use borrow.Author.Needs.{needs}
-use Rattle.share.specs.Share.{Sized, Within}
+use Rattle.share.specs.Share.{Within}
 use Rattle.share.proofs.first_shares.Statement.{statement}
 use Rattle.share.proofs.first_shares.Tie as tie
-use Rattle.share.proofs.first_shares.Reads as reads
-use Rattle.share.proofs.first_shares.Lts as lts
-use Rattle.share.proofs.first_share.Reads as first-share-reads
 
 abbrev Inv-loop : tie.InvT-loop
 Inv-loop x₀ rooms holds needs d j₀ x j = (j ≤ 47) × (length x ≡ 1128) × Within rooms holds needs x

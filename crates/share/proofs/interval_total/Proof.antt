@@ -1,14 +1,12 @@
-use Prim.Native.Nat.{ℕ, _<_, _≤_, _+_, _-_, _*_}
-use mathlib.Core.Path.{_≡_, refl, sym, ap, _∙_}
+use Prim.Native.Nat.{ℕ, _≤_, _-_}
+use mathlib.Core.Path.{_≡_, ap, _∙_}
 use native.Mathlib.Omega.{arith}
 use borrow.Author.Needs.{needs}
 use Rattle.model.specs.Sets.{sum}
-use Rattle.share.specs.Share.{cell, got, given}
-use Rattle.share.proofs.Laws.{part-step, sum-none, given-sum, got-sum}
+use Rattle.share.specs.Share.{cell}
+use Rattle.share.proofs.Laws.{part-step, sum-none, given-sum}
 use Rattle.share.proofs.interval_total.Statement.{statement}
 use Rattle.share.proofs.interval_total.Tie as tie
-use Rattle.share.proofs.interval_total.Reads as reads
-use Rattle.share.proofs.interval_total.Lts as lts
 
 abbrev Inv-loop : tie.InvT-loop
 Inv-loop x j holds s₀ d₀ s d = (d ≤ 24) × (s ≡ sum d (λ k. cell x k j))

@@ -1,13 +1,7 @@
-use Prim.Native.Nat.{ℕ, _<_, _≤_, _+_, _-_, _*_}
-use mathlib.Core.Path.{_≡_}
-use lib.ListN.{length}
-use native.Mathlib.Omega.{arith}
+use Prim.Native.Nat.{_≤_, _-_}
 use borrow.Author.Needs.{needs}
 use Rattle.share.proofs.largest_need.Statement.{statement}
 use Rattle.share.proofs.largest_need.Tie as tie
-use Rattle.share.proofs.largest_need.Reads as reads
-use Rattle.share.proofs.largest_need.Lts as lts
-use Rattle.share.proofs.larger.Reads as larger-reads
 
 abbrev Inv-loop : tie.InvT-loop
 Inv-loop needs most₀ k₀ most k = (k ≤ 24) × (1 ≤ most)

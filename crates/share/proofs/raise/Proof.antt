@@ -1,14 +1,11 @@
-use Prim.Native.Nat.{ℕ, _<_, _≤_, _+_, _-_, _*_, _/_}
-use mathlib.Core.Path.{_≡_, refl, sym, ap, _∙_}
+use Prim.Native.Nat.{_≤_}
+use mathlib.Core.Path.{_≡_}
 use lib.ListN.{length}
 use native.Mathlib.Omega.{arith}
 use borrow.Author.Needs.{needs}
 use Rattle.share.specs.Share.{Raised}
 use Rattle.share.proofs.raise.Statement.{statement}
 use Rattle.share.proofs.raise.Tie as tie
-use Rattle.share.proofs.raise.Reads as reads
-use Rattle.share.proofs.raise.Lts as lts
-use Rattle.share.proofs.raise_pass.Reads as raise-pass-reads
 
 abbrev Inv-loop : tie.InvT-loop
 Inv-loop x₀ rooms holds needs top least₀ dead₀ x least dead = (length x ≡ 1128) × (1 ≤ least) × (least ≤ top) × Raised rooms holds needs least 24 dead x

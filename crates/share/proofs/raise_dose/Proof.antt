@@ -1,17 +1,13 @@
-use Prim.Native.Nat.{ℕ, _<_, _≤_, _+_, _-_, _*_}
-use mathlib.Core.Path.{_≡_, refl, sym, ap, _∙_}
+use Prim.Native.Nat.{ℕ, _<_, _≤_, _-_}
+use mathlib.Core.Path.{_≡_, refl, _∙_}
 use mathlib.Core.Logic.{_≢_}
-use lib.ListN.{length, getD, set, length-set}
+use lib.ListN.{length}
 use native.Mathlib.Omega.{arith}
 use borrow.Author.Needs.{needs}
-use Rattle.share.specs.Share.{cell, got, given, Bounded, Sized, Kept, Exhausted}
+use Rattle.share.specs.Share.{got, Bounded, Kept}
 use Rattle.share.proofs.Laws.{kept-refl, kept-trans, kept-drop, exhausted-same, exhausted-none}
 use Rattle.share.proofs.raise_dose.Statement.{statement}
 use Rattle.share.proofs.raise_dose.Tie as tie
-use Rattle.share.proofs.raise_dose.Reads as reads
-use Rattle.share.proofs.raise_dose.Lts as lts
-use Rattle.share.proofs.from_dose.Reads as from-dose-reads
-use Rattle.share.proofs.dose_total.Reads as dose-total-reads
 
 abbrev Inv-loop : tie.InvT-loop
 Inv-loop x₀ rooms holds dead d need least x = (length x ≡ 1128) × Bounded rooms holds x × (got x d ≤ need) × ((k : ℕ) → k < 24 → k ≢ d → got x k ≡ got x₀ k) × Kept dead x₀ dead x

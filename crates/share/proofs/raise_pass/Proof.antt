@@ -1,17 +1,12 @@
-use Prim.Native.Nat.{ℕ, _<_, _≤_, _+_, _-_, _*_}
-use mathlib.Core.Path.{_≡_, refl, sym, ap, _∙_}
-use mathlib.Core.Bool.{true, false}
-use lib.ListN.{length, getD, set, length-set}
+use Prim.Native.Nat.{_≤_, _-_}
+use mathlib.Core.Path.{_≡_}
+use lib.ListN.{length}
 use native.Mathlib.Omega.{arith}
 use borrow.Author.Needs.{needs}
-use borrow.Author.Count.{below-more}
-use Rattle.share.specs.Share.{Seen, cell, got, given, Bounded, Sized, Kept, Exhausted, Dead, Raised}
+use Rattle.share.specs.Share.{Raised}
 use Rattle.share.proofs.Laws.{raised-none, raised-step, all-false}
 use Rattle.share.proofs.raise_pass.Statement.{statement}
 use Rattle.share.proofs.raise_pass.Tie as tie
-use Rattle.share.proofs.raise_pass.Reads as reads
-use Rattle.share.proofs.raise_pass.Lts as lts
-use Rattle.share.proofs.raise_dose.Reads as raise-dose-reads
 
 abbrev Inv-loop : tie.InvT-loop
 Inv-loop x₀ rooms holds needs least dead₀ d₀ x dead d = (d ≤ 24) × (length x ≡ 1128) × Raised rooms holds needs least d dead x

@@ -1,19 +1,11 @@
-use Prim.Native.Nat.{ℕ, _<_, _≤_, _+_, _-_, _*_, _/_, _%_, min}
-use mathlib.Core.Path.{_≡_, refl, sym, ap, _∙_}
-use mathlib.Core.Bool.{Bool, true, false, not, _&&_}
-use lib.ListN.{length, getD, set, length-set}
+use Prim.Native.Nat.{ℕ, _+_}
+use mathlib.Core.Path.{_≡_, refl, ap}
+use lib.ListN.{length}
 use native.Mathlib.Omega.{arith}
 use borrow.Author.Needs.{needs}
-use Rattle.model.specs.Sets.{sum, on, weight}
 use lib.Seq.{getD-set-same, getD-set-other}
-use borrow.Author.Needs.{needs}
 use Rattle.classes.proofs.Tally.after.Statement.{statement}
 use Rattle.classes.proofs.Tally.after.Tie as tie
-use Rattle.classes.proofs.Tally.after.Reads as reads
-use Rattle.classes.proofs.Tally.after.Lts as lts
-use Rattle.classes.proofs.left_of.Reads as left-of-reads
-use Rattle.classes.proofs.numbered.Reads as numbered-reads
-use Rattle.classes.proofs.size_of.Reads as size-of-reads
 
 left-of-requires : tie.Need-left-of-requires
 left-of-requires c κs = search needs
