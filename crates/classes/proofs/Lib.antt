@@ -4,3 +4,4 @@ pub mod Same
 pub mod OnePhase
 pub mod OfOrder
 pub mod OverTop
+pub mod OneAnswer

@@ -45,10 +45,11 @@ module _ (o : Order) (fit : Fit o) where
   abbrev S : Setting
   S = settingOf o
 
-  grams-most : (A : Doses) → W S A ≤ 24000000
+  -- W and P fit 4 bytes
+  pub grams-most : (A : Doses) → W S A ≤ 24000000
   grams-most A = omega (arith, weight-most (S .doses) 1000000 (S .grams) A (fit .light), fit .few)
 
-  time-most : (row : Row) (A : Doses) → P S row A ≤ 1000000000
+  pub time-most : (row : Row) (A : Doses) → P S row A ≤ 1000000000
   unfolding P openFans
   time-most row A =
       omega (

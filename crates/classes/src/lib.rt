@@ -233,11 +233,11 @@ pub fn classes_of(o: Order, shares: &mut [u64; 1128], table: &mut [[u8; 47]; 24]
     let lens = lens_in(instants);
     let grams = grams_in(o);
     let sequence = by_deadline(o);
-    let mut own = [0u64; 1128];
-    let mut rows = [[0u8; 47]; 24];
-    let tally = phases(
-        &mut own,
-        &mut rows,
+    *shares = [0u64; 1128];
+    *table = [[0u8; 47]; 24];
+    phases(
+        shares,
+        table,
         &active,
         &lens,
         &grams,
@@ -245,10 +245,7 @@ pub fn classes_of(o: Order, shares: &mut [u64; 1128], table: &mut [[u8; 47]; 24]
         intervals,
         fans as u64,
         sequence,
-    );
-    *shares = own;
-    *table = rows;
-    tally
+    )
 }
 
 // Refusal 9: "first class: W × top seconds above P × top grams", by exact products.

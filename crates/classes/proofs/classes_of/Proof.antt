@@ -1,3 +1,4 @@
+-- `classes_of` meets its contract: the arrays stand for the order (OfOrder).
 use mathlib.Core.Path.{refl}
 use borrow.Author.Needs.{needs}
 use Rattle.classes.proofs.OfOrder.{few-doses, sheet, of-order}
@@ -22,21 +23,18 @@ grams-in-requires c κs = few-doses (c .before .before .before .before .args .o)
 by-deadline-requires : tie.Need-by-deadline-requires
 by-deadline-requires c κs = few-doses (c .before .before .before .before .before .args .o) (c .before .before .before .before .before .pre)
 
-slice-aggregate-phases : tie.Need-slice-aggregate-phases
-slice-aggregate-phases c = search needs
-
 cast-phases : tie.Need-cast-phases
 cast-phases c = search needs
 
 phases-requires : tie.Need-phases-requires
 phases-requires c κs =
-    let A = c .before .before .before .before .before .before .before .before .before .before .before .args in
-    (refl, refl, sheet (A .o) (c .before .before .before .before .before .before .before .before .before .before .before .pre) (c .before .before .before .before .before .before .before .before .before .before .instants-of .result) (c .before .before .before .before .before .before .before .before .before .before .instants-of .ensures) (c .before .before .before .before .before .before .before .before .before .interval-count .result) (c .before .before .before .before .before .before .before .before .before .interval-count .ensures) (c .before .before .before .before .before .before .before .before .active-in-order .result) (c .before .before .before .before .before .before .before .lens-in .result) (c .before .before .before .before .before .before .grams-in .result) (c .before .before .before .before .before .before .before .before .active-in-order .ensures) (c .before .before .before .before .before .before .before .lens-in .ensures .0) (c .before .before .before .before .before .before .before .lens-in .ensures .1) (c .before .before .before .before .before .before .grams-in .ensures .0) (c .before .before .before .before .before .before .grams-in .ensures .1))
+    let A = c .before .before .before .before .before .before .before .before .before .before .before .before .before .args in
+    (refl, refl, sheet (A .o) (c .before .before .before .before .before .before .before .before .before .before .before .before .before .pre) (c .before .before .before .before .before .before .before .before .before .before .before .before .instants-of .result) (c .before .before .before .before .before .before .before .before .before .before .before .before .instants-of .ensures) (c .before .before .before .before .before .before .before .before .before .before .before .interval-count .result) (c .before .before .before .before .before .before .before .before .before .before .before .interval-count .ensures) (c .before .before .before .before .before .before .before .before .before .before .active-in-order .result) (c .before .before .before .before .before .before .before .before .before .lens-in .result) (c .before .before .before .before .before .before .before .before .grams-in .result) (c .before .before .before .before .before .before .before .before .before .before .active-in-order .ensures) (c .before .before .before .before .before .before .before .before .before .lens-in .ensures .0) (c .before .before .before .before .before .before .before .before .before .lens-in .ensures .1) (c .before .before .before .before .before .before .before .before .grams-in .ensures .0) (c .before .before .before .before .before .before .before .before .grams-in .ensures .1))
 
 returns : tie.Need-returns
 returns c =
-    let A = c .before .before .before .before .before .before .before .before .before .before .before .before .before .args in
-    of-order (A .o) (c .before .before .before .before .before .before .before .before .before .before .before .before .before .pre) (c .before .before .before .before .before .before .before .before .before .before .before .before .instants-of .result) (c .before .before .before .before .before .before .before .before .before .before .before .before .instants-of .ensures) (c .before .before .before .before .before .before .before .before .before .before .before .interval-count .result) (c .before .before .before .before .before .before .before .before .before .before .before .interval-count .ensures) (c .before .before .before .before .before .before .before .before .before .before .active-in-order .result) (c .before .before .before .before .before .before .before .before .before .lens-in .result) (c .before .before .before .before .before .before .before .before .grams-in .result) (c .before .before .before .before .before .before .before .before .before .before .active-in-order .ensures) (c .before .before .before .before .before .before .before .before .before .lens-in .ensures .0) (c .before .before .before .before .before .before .before .before .before .lens-in .ensures .1) (c .before .before .before .before .before .before .before .before .grams-in .ensures .0) (c .before .before .before .before .before .before .before .before .grams-in .ensures .1) _ _ _ (c .before .phases .ensures .0) (c .before .phases .ensures .1)
+    let A = c .before .before .before .before .before .before .before .before .before .before .before .before .before .before .args in
+    of-order (A .o) (c .before .before .before .before .before .before .before .before .before .before .before .before .before .before .pre) (c .before .before .before .before .before .before .before .before .before .before .before .before .before .instants-of .result) (c .before .before .before .before .before .before .before .before .before .before .before .before .before .instants-of .ensures) (c .before .before .before .before .before .before .before .before .before .before .before .before .interval-count .result) (c .before .before .before .before .before .before .before .before .before .before .before .before .interval-count .ensures) (c .before .before .before .before .before .before .before .before .before .before .before .active-in-order .result) (c .before .before .before .before .before .before .before .before .before .before .lens-in .result) (c .before .before .before .before .before .before .before .before .before .grams-in .result) (c .before .before .before .before .before .before .before .before .before .before .before .active-in-order .ensures) (c .before .before .before .before .before .before .before .before .before .before .lens-in .ensures .0) (c .before .before .before .before .before .before .before .before .before .before .lens-in .ensures .1) (c .before .before .before .before .before .before .before .before .before .grams-in .ensures .0) (c .before .before .before .before .before .before .before .before .before .grams-in .ensures .1) _ _ _ (c .phases .ensures .0) (c .phases .ensures .1)
 
 pub classes-of-spec : {M : Type 1} → statement M
 classes-of-spec =
@@ -48,7 +46,6 @@ classes-of-spec =
     lens-in-requires
     grams-in-requires
     by-deadline-requires
-    slice-aggregate-phases
     cast-phases
     phases-requires
     returns)

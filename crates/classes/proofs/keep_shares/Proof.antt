@@ -1,3 +1,4 @@
+-- `keep_shares` meets its contract: every place passed has its share, the others are as before.
 use Prim.Native.Nat.{ℕ, _<_, _≤_, _-_, _/_}
 use mathlib.Core.Path.{_≡_, refl, ap, _∙_}
 use mathlib.Core.Bool.{false}

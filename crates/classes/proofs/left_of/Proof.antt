@@ -1,3 +1,4 @@
+-- `left_of` meets its contract: every dose passed remains where it is no member.
 use Prim.Native.Nat.{ℕ, _<_, _≤_, _-_}
 use mathlib.Core.Path.{_≡_}
 use mathlib.Core.Bool.{false, not, _&&_}

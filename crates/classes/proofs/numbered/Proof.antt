@@ -1,3 +1,4 @@
+-- `numbered` meets its contract: every dose passed has its number.
 use Prim.Native.Nat.{ℕ, _<_, _≤_, _-_}
 use mathlib.Core.Path.{_≡_}
 use mathlib.Core.Bool.{false}

@@ -1,3 +1,4 @@
+-- `phase` meets its contract: one class more is the tally so far (OnePhase).
 use mathlib.Core.Path.{refl}
 use native.Mathlib.Omega.{arith}
 use borrow.Author.Needs.{needs}

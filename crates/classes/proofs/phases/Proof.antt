@@ -1,3 +1,4 @@
+-- `phases` meets its contract: the tally so far is the invariant, and the doses not yet classed fall.
 use Prim.Native.Nat.{_≤_, _-_}
 use mathlib.Core.Path.{_≡_}
 use lib.ListN.{length}

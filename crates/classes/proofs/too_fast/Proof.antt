@@ -1,3 +1,4 @@
+-- `too_fast` meets its contract: the products of the first class (OverTop).
 use Prim.Native.Nat.{ℕ, _<_, _≤_, _*_}
 use mathlib.Core.Path.{ap, _∙_}
 use lib.ListN.{getD}

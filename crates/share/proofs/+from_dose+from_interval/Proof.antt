@@ -1,3 +1,5 @@
+-- The two searches meet their contracts together: the number of unseen stations falls at each call. In each loop nothing was pushed so far,
+-- and what was seen since the start is exhausted.
 use Prim.Native.Nat.{ℕ, _<_, _≤_, _+_, _-_, _*_}
 use mathlib.Core.Path.{_≡_, refl, _∙_}
 use mathlib.Core.Bool.{true, false}

@@ -1,3 +1,4 @@
+-- `all_met` meets its contract: every dose passed has its need.
 use Prim.Native.Nat.{ℕ, _<_, _≤_, _-_}
 use mathlib.Core.Path.{_≡_, refl}
 use lib.ListN.{getD}

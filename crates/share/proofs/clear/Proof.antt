@@ -1,3 +1,4 @@
+-- `clear` meets its contract: every place passed is 0.
 use Prim.Native.Nat.{ℕ, _<_, _≤_, _-_}
 use mathlib.Core.Path.{_≡_, _∙_}
 use lib.ListN.{length, getD, length-set}

@@ -1,3 +1,4 @@
+-- `dose_total` meets its contract: the sum so far is that of the intervals passed.
 use Prim.Native.Nat.{ℕ, _≤_, _-_}
 use mathlib.Core.Path.{_≡_, ap, _∙_}
 use native.Mathlib.Omega.{arith}

@@ -1,3 +1,4 @@
+-- `find_shares` meets its contract: no shares are within all bounds, and stay so.
 use Prim.Native.Nat.{_≤_, _-_}
 use mathlib.Core.Path.{_≡_}
 use lib.ListN.{length}

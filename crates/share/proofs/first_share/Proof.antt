@@ -1,3 +1,4 @@
+-- `first_share` meets its contract: the smallest of need, room and spare time fits all three.
 use Prim.Native.Nat.{_+_, _*_}
 use native.Mathlib.Omega.{arith}
 use Rattle.share.proofs.Laws.{within-more}

@@ -1,3 +1,4 @@
+-- `first_shares` meets its contract: the shares stay within their bounds.
 use Prim.Native.Nat.{_≤_, _-_}
 use mathlib.Core.Path.{_≡_}
 use lib.ListN.{length}

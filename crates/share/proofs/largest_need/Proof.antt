@@ -1,3 +1,4 @@
+-- `largest_need` meets its contract.
 use Prim.Native.Nat.{_≤_, _-_}
 use borrow.Author.Needs.{needs}
 use Rattle.share.proofs.largest_need.Statement.{statement}

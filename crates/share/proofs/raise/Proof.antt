@@ -1,3 +1,4 @@
+-- `raise` meets its contract: the threshold falls to 1.
 use Prim.Native.Nat.{_≤_}
 use mathlib.Core.Path.{_≡_}
 use lib.ListN.{length}

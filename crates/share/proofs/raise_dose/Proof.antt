@@ -1,3 +1,4 @@
+-- `raise_dose` meets its contract: what the dose is short of falls.
 use Prim.Native.Nat.{ℕ, _<_, _≤_, _-_}
 use mathlib.Core.Path.{_≡_, refl, _∙_}
 use mathlib.Core.Logic.{_≢_}

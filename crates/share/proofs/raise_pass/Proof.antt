@@ -1,3 +1,4 @@
+-- `raise_pass` meets its contract: every dose passed is met or dead.
 use Prim.Native.Nat.{_≤_, _-_}
 use mathlib.Core.Path.{_≡_}
 use lib.ListN.{length}

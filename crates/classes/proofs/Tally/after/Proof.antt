@@ -1,3 +1,4 @@
+-- `Tally::after` meets its contract.
 use Prim.Native.Nat.{ℕ, _+_}
 use mathlib.Core.Path.{_≡_, refl, ap}
 use lib.ListN.{length}

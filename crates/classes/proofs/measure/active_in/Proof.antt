@@ -1,3 +1,4 @@
+-- `active_in` meets its contract: the sum so far counts the active members passed.
 use Prim.Native.Nat.{_≤_, _-_, _*_}
 use mathlib.Core.Path.{_≡_, ap, _∙_}
 use mathlib.Core.Bool.{false}

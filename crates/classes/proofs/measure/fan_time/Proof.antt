@@ -1,3 +1,4 @@
+-- `fan_time` meets its contract: the sum so far is that of the intervals passed.
 use Prim.Native.Nat.{_≤_, _-_, _*_}
 use mathlib.Core.Path.{_≡_, refl}
 use lib.ListN.{getD}

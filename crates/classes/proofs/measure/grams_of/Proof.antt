@@ -1,3 +1,4 @@
+-- `grams_of` meets its contract: the sum so far is the weight of the doses passed.
 use Prim.Native.Nat.{_≤_, _-_, _*_}
 use mathlib.Core.Path.{_≡_}
 use lib.ListN.{getD, set}

@@ -1,3 +1,4 @@
+-- `open_fans` meets its contract: every interval passed has the smaller of the two numbers.
 use Prim.Native.Nat.{ℕ, _<_, _≤_, _-_, min}
 use mathlib.Core.Path.{_≡_, ap, _∙_}
 use lib.ListN.{length, getD, set, length-set}

@@ -1,3 +1,4 @@
+-- `size_of` meets its contract: the sum so far counts the members passed.
 use Prim.Native.Nat.{_≤_, _-_, _*_}
 use mathlib.Core.Path.{_≡_}
 use lib.ListN.{set}

@@ -1,3 +1,4 @@
+-- `dead_part` meets its contract: every dose passed is marked where it is in both.
 use Prim.Native.Nat.{ℕ, _<_, _≤_, _-_}
 use mathlib.Core.Path.{_≡_}
 use mathlib.Core.Bool.{false, _&&_}

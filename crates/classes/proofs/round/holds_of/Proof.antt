@@ -1,3 +1,4 @@
+-- `holds_of` meets its contract: every interval passed has its reserved time.
 use Prim.Native.Nat.{ℕ, _<_, _≤_, _-_, _*_}
 use mathlib.Core.Path.{_≡_, refl}
 use lib.ListN.{length, getD, length-set}

@@ -1,3 +1,4 @@
+-- `next_class` meets its contract: the set stays a candidate from round to round, and its grams fall.
 use mathlib.Core.Path.{_≡_}
 use lib.ListN.{length, getD, set}
 use borrow.Author.Needs.{needs}

@@ -1,3 +1,4 @@
+-- `rooms_of` meets its contract: every place passed has its room.
 use Prim.Native.Nat.{ℕ, _<_, _≤_, _-_, _*_, _/_, _%_}
 use mathlib.Core.Path.{_≡_, ap, _∙_}
 use mathlib.Core.Bool.{false}
@@ -34,7 +35,7 @@ element-copy-out-on-2 c = search needs
 mul-on-2 : tie.Need-mul-on-2 Inv-loop μ-loop
 mul-on-2 c =
     let t : getD (c .before .before .before .before .args .lens .now) (c .before .before .before .loop .i % 47) 0 * c .before .before .before .before .args .w ≤ 604800 * 24000000 = mul-le-mul (c .before .before .before .before .pre .0 (c .before .before .before .loop .i % 47)) (c .before .before .before .before .pre .1) in
-    omega arith
+    omega (arith, c .before .before .before .before .pre .0 (c .before .before .before .loop .i % 47))
 
 on-requires : tie.Need-on-requires Inv-loop μ-loop
 on-requires c κs = search needs

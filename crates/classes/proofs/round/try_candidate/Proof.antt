@@ -1,3 +1,4 @@
+-- `try_candidate` meets its contract: the arrays are those that the candidate asks for (OneRound).
 use lib.ListN.{set}
 use borrow.Author.Needs.{needs}
 use Rattle.classes.proofs.OneRound.{measured, tried}

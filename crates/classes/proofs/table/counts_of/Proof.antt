@@ -1,3 +1,4 @@
+-- `counts_of` meets its contract: every interval passed has its count.
 use Prim.Native.Nat.{ℕ, _<_, _≤_, _-_}
 use mathlib.Core.Path.{_≡_, refl}
 use lib.ListN.{length, getD, length-set}

@@ -1,3 +1,4 @@
+-- `free_fans` meets its contract: every interval passed has its free fans.
 use Prim.Native.Nat.{ℕ, _<_, _≤_, _-_}
 use mathlib.Core.Path.{_≡_, ap, _∙_}
 use lib.ListN.{length, getD, length-set}

@@ -1,3 +1,4 @@
+-- `reserve` meets its contract: one row is replaced.
 use mathlib.Core.Path.{_∙_}
 use lib.ListN.{length-set}
 use native.Mathlib.Omega.{arith}

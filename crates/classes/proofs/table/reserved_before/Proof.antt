@@ -1,3 +1,4 @@
+-- `reserved_before` meets its contract: the sum so far is that of the rows passed.
 use Prim.Native.Nat.{_≤_, _-_, _*_}
 use mathlib.Core.Path.{_≡_}
 use native.Mathlib.Omega.{arith}

@@ -1,3 +1,4 @@
+-- `first_set` meets its contract: the sum so far has the bits of the doses passed.
 use Prim.Native.Nat.{_<_, _≤_, _-_, _^_}
 use mathlib.Core.Path.{_≡_, refl}
 use native.Mathlib.Omega.{arith}
