@@ -2,7 +2,7 @@
 use mathlib.Core.Logic.{inl, inr}
 use mathlib.Core.Path.{_≡_, sym, _∙_}
 use mathlib.Core.List.{List}
-use Prim.Native.Nat.{ℕ, _+_, _*_, _<_}
+use Prim.Native.Nat.{ℕ, _+_, _*_, _≤_, _<_}
 use native.Mathlib.Numerals.{add-one}
 use native.Mathlib.Omega.{arith}
 use lib.Dec.{eqb}
@@ -44,6 +44,9 @@ sharesBy numbers shares i k j = on (numbered numbers i k) (getD shares (k * 47 +
 doses-count : (o : code.Order) → settingOf (asOrder o) .doses ≡ o .count
 unfolding asOrder dosesFrom
 doses-count o = run-length (doseHeld o) 0 (o .count)
+
+pub few-doses : (o : code.Order) → Fit (asOrder o) → o .count ≤ 24
+few-doses o fit = omega (arith, doses-count o, fit .few)
 
 module _ {o : code.Order} (fit : Fit (asOrder o)) {s : Instants} (bounds : InstantsOf o s) {p : ℕ} {numbers grams time : List ℕ} {t : Tables}
     (made : TablesOf (o .count) s p numbers grams time t)

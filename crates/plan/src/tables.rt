@@ -26,7 +26,14 @@ fn interval_count(s: Instants) -> usize
     if s.count == 0 { 0 } else { s.count - 1 }
 }
 
-pub fn tables_of(doses: usize, s: Instants, classes: usize, class_of: [u8; 24], grams: [u64; 24], time: [u64; 24]) -> Tables
+pub fn tables_of(
+    doses: usize,
+    s: Instants,
+    classes: usize,
+    class_of: [u8; 24],
+    grams: [u64; 24],
+    time: [u64; 24],
+) -> Tables
     ensures { λ r. ⌜ TablesOf doses s classes «class_of» grams time r ⌝ }
 {
     let instants = s.at;

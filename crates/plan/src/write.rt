@@ -12,7 +12,7 @@ ghost use Rattle.layout.specs.Held.{asClass, tableFrom};
 ghost use Rattle.layout.specs.Laying.{Filled, Wrote};
 ghost use Rattle.plan.specs.Held.{membersFrom, classFrom, classesFrom, bytesFrom};
 
-pub fn one_if(test: bool) -> u32
+fn one_if(test: bool) -> u32
     ensures { λ r. ⌜ (r ≡ on test 1) × (r ≤ 1) ⌝ }
 {
     if test { 1 } else { 0 }

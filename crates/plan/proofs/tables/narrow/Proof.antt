@@ -6,8 +6,6 @@ use Rattle.plan.proofs.Tabling.{one-more}
 use borrow.Author.Needs.{needs}
 use Rattle.plan.proofs.tables.narrow.Statement.{statement}
 use Rattle.plan.proofs.tables.narrow.Tie as tie
-use Rattle.plan.proofs.tables.narrow.Reads as reads
-use Rattle.plan.proofs.tables.narrow.Lts as lts
 
 abbrev Inv-loop : tie.InvT-loop
 Inv-loop wide numbers₀ i₀ numbers i = (i ≤ 24) × (length numbers ≡ 24) × ((k : ℕ) → k < i → getD numbers k 0 ≡ getD wide k 0 % 4294967296)
