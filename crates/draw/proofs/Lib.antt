@@ -1,2 +1,5 @@
 pub mod Walks
 pub mod Points
+pub mod Answers
+pub mod Drawings
+pub mod Demand3OfAnswers

@@ -11,9 +11,14 @@ use Rattle.model.specs.Plans.{PlanRecord, slotOf, slotsIn, planRecords}
 use Rattle.model.specs.Stands.{starts, ends}
 use Rattle.model.specs.Line.{finished, shut, idle, dosing, unitsBefore, timeOf}
 use Rattle.model.specs.Line as line
+use Rattle.model.specs.Orders.{Order}
+use Rattle.model.specs.Stands.{Stands}
+use Rattle.model.specs.Answers.{Answer, Accepts}
+use Rattle.model.specs.Answers as answers
 use Rattle.draw.specs.declared.State.{State}
 use Rattle.draw.specs.declared.State.the-variants as is
 use Rattle.draw.specs.declared.Point.{Point}
+use Rattle.draw.specs.declared.Drawn.{Drawn}
 
 -- ---- points
 
@@ -25,6 +30,13 @@ asState (is.Dosing fan) = dosing fan
 
 abbrev pub asPoint : Point → line.Point
 asPoint p = record { amount = p .amount; state = asState (p .state) }
+
+-- the answer in five numbers
+abbrev pub answerOf : ℕ → ℕ → ℕ → ℕ → ℕ → Answer
+answerOf number place set grams time = record { number = number; place = place; set = set; grams = grams; time = time }
+
+abbrev pub asDrawn : Drawn → answers.Drawn
+asDrawn d = record { answer = answerOf (d .number) (d .place) (d .set) (d .grams) (d .time); point = asPoint (d .point) }
 
 -- ---- one record of 32 bytes
 
@@ -49,3 +61,9 @@ pub record Drawable (plan : List ℕ) (d : ℕ) : Type 0 where
   pub some-time : 0 < timeOf (slotsIn records) d
   pub time-most : timeOf (slotsIn records) d ≤ 4838400
   pub units-most : (t : ℕ) → unitsBefore (slotsIn records) d t ≤ 1000000 * timeOf (slotsIn records) d
+
+-- the order is accepted and the plan stands for it: what is left to check is 11 and 12
+pub record Sound (order plan : List ℕ) : Type 0 where
+  pub read-order : Order
+  pub accepts : Accepts order read-order
+  pub stands : Stands read-order plan

@@ -7,8 +7,9 @@ ghost use Rattle.model.specs.Records.{numberAt};
 ghost use Rattle.model.specs.Plans.{slotOf, slotsRead, planRecords};
 ghost use Rattle.model.specs.Stands.{starts, ends};
 ghost use Rattle.model.specs.Line.{unitsBefore, timeOf, fedAt, stateAt, pointAt};
+ghost use Rattle.model.specs.Answers.{noPoint, Draws};
 ghost use Rattle.order.specs.Held.{asOrder};
-ghost use Rattle.draw.specs.Drawing.{asState, asPoint, ownSlot, unitsIn, feedsAt, Drawable};
+ghost use Rattle.draw.specs.Drawing.{asState, asPoint, asDrawn, answerOf, ownSlot, unitsIn, feedsAt, Drawable, Sound};
 use order::Order;
 
 // "one of four states"; "Dosing carries the fan number"
@@ -23,6 +24,16 @@ pub enum State {
 pub struct Point {
     pub amount: u32,
     pub state: State,
+}
+
+// The number and place, refusal 9's set, W and P, and the point: "Fields not meant are 0, and a state not meant is Shut."
+pub struct Drawn {
+    pub number: u32,
+    pub place: usize,
+    pub set: u32,
+    pub grams: u32,
+    pub time: u32,
+    pub point: Point,
 }
 
 fn wide(x: u32) -> u64
@@ -205,5 +216,47 @@ fn point_of(o: Order, plan: &[u8], dose: usize, tick: u32) -> Point
     Point {
         amount: amount,
         state: state,
+    }
+}
+
+// No point comes with a refusal.
+fn no_point(number: u32, place: usize, set: u32, grams: u32, time: u32) -> Drawn
+    ensures { λ d. ⌜ asDrawn d ≡ noPoint (answerOf number place set grams time) ⌝ }
+{
+    Drawn {
+        number: number,
+        place: place,
+        set: set,
+        grams: grams,
+        time: time,
+        point: Point {
+            amount: 0,
+            state: State::Shut,
+        },
+    }
+}
+
+// "then .. 11, 12", where the order is accepted and the plan stands.
+fn in_plan(order: &[u8], plan: &[u8], dose: usize, tick: u32) -> Drawn
+    requires { ⌜ Sound (now order) (now plan) ⌝ }
+    ensures { λ d. ⌜ Draws (now (order .entry)) (now (plan .entry)) dose tick (asDrawn d) ⌝ }
+{
+    let r = order::read_order(order);
+    let o = r.order;
+    let n = o.count;
+    if n <= dose {
+        return no_point(11, 0, 0, 0, 0);
+    }
+    if 604800 < tick {
+        return no_point(12, 0, 0, 0, 0);
+    }
+    let p = point_of(o, plan, dose, tick);
+    Drawn {
+        number: 0,
+        place: 0,
+        set: 0,
+        grams: 0,
+        time: 0,
+        point: p,
     }
 }
