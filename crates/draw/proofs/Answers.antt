@@ -1,18 +1,17 @@
 -- What comes back, by cases: a verdict of 0 is a plan that stands, each input has one answer, and a drawing gives the pen's move. Assumes nothing.
-use mathlib.Core.Logic.{_≢_, inl, inr}
+use mathlib.Core.Logic.{_≢_}
 use mathlib.Core.Path.{_≡_, refl, sym, ap, subst, _∙_}
 use mathlib.Core.List.{List}
-use Prim.Native.Nat.{ℕ, suc, _+_, _*_, _<_, _≤_, min}
+use Prim.Native.Nat.{ℕ, suc, _+_, _<_, _≤_}
 use native.Mathlib.Omega.{arith}
 use borrow.Author.Tests.{le-leb, lt-leb, le-ltb, lt-ltb}
 use lib.Dec.{leb, ltb}
 use Rattle.model.specs.Sets.{Doses}
 use Rattle.model.specs.Records.{pick, read, refused}
 use Rattle.model.specs.Orders.{Order, readOrder}
-use Rattle.model.specs.Classes.{W, P, setNumber}
+use Rattle.model.specs.Classes.{P}
 use Rattle.model.specs.Intervals.{settingOf, fansPresent}
 use Rattle.model.specs.Stands.{Stands}
-use Rattle.model.specs.Line.{Point, shut}
 use Rattle.model.specs.Answers.{Accepts, Answer, Drawn, Draws, FirstClass, Judges, Moves, Pen, Refuses, above, at-end, done, draws, falls, moves, no-dose, noPoint, pointOf, refusal, refuses, stands, too-late, tooFast, unread, week}
 use Rattle.model.proofs.Sets.{Alike, weight-alike}
 use Rattle.model.proofs.FanTime.{P-alike}

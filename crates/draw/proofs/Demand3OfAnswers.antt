@@ -1,10 +1,9 @@
 -- Demand 3 over the answers themselves: for all orders, plans, doses and ticks for which drawing answers 0. A pen's answer is a drawing at its new tick (moved-drawn of Answers).
 -- Assumes nothing.
-use mathlib.Core.Bool.{Bool, true, false, _&&_}
 use mathlib.Core.Logic.{_⊎_}
-use mathlib.Core.Path.{_≡_, refl, sym, ap, subst, _∙_}
-use mathlib.Core.List.{List, [], _∷_}
-use Prim.Native.Nat.{ℕ, zero, suc, _+_, _*_, _≤_, _<_}
+use mathlib.Core.Path.{_≡_, sym, ap, _∙_}
+use mathlib.Core.List.{List}
+use Prim.Native.Nat.{ℕ, _+_, _*_, _≤_, _<_}
 use native.Mathlib.Omega.{arith}
 use lib.Dec.{T}
 use Rattle.model.specs.Sets.{Doses}
@@ -14,9 +13,10 @@ use Rattle.model.specs.Classes.{Classes, W, classP}
 use Rattle.model.specs.Intervals.{fansPresent, settingOf}
 use Rattle.model.specs.Plans.{Slot, planRecords, slotsRead}
 use Rattle.model.specs.Stands.{ends, starts}
-use Rattle.model.specs.Line.{HasFan, OneOf, RunsAt, drawn, gramsOf, timeOf, unitsBefore}
+use Rattle.model.specs.Line.{HasFan, OneOf, RunsAt, dosing, drawn, finished, gramsOf, idle, shut, stateAt, timeOf, unitsBefore}
 use Rattle.model.specs.Answers.{Drawn, Draws}
 use Rattle.model.proofs.Demand3 as demand
+use Rattle.draw.proofs.States.{Fed, fed-by, idle-free, inside}
 use Rattle.draw.proofs.Answers.{Done, drawn-done}
 
 module _ (order plan : List ℕ) (d : ℕ) where
@@ -95,3 +95,29 @@ module _ (order plan : List ℕ) (d : ℕ) where
     pub waits-only-while-all-fans-run : (q m : ℕ) → 0 < q → q * doseAt o d .release ≤ m → m < q * doseAt o d .deadline → (HasFan slots q m d → ⊥)
         → (f : ℕ) → 1 ≤ f → f ≤ o .fans → RunsAt slots q m f (gramsOf slots d) (timeOf slots d)
     waits-only-while-all-fans-run = demand.waits-only-while-all-fans-run order o e plan (rw same-order at (done t x a .sound .stands)) d listed
+
+    state-is : x .point .state ≡ stateAt o slots d t
+    state-is = ap (λ (y : Drawn). y .point .state) (done t x a .is) ∙ ap (λ (u : Order). stateAt u slots d t) same-order
+
+    -- a dose that is drawn Idle is inside its window, and every fan is running, each at that dose's rate or above
+    pub idle-only-while-all-fans-run : x .point .state ≡ idle
+        → (doseAt o d .release ≤ t) × (t < doseAt o d .deadline) × ((f : ℕ) → 1 ≤ f → f ≤ o .fans → RunsAt slots 1 t f (gramsOf slots d) (timeOf slots d))
+    idle-only-while-all-fans-run z =
+        let s = inside d t o slots idle (λ e. differ e) (λ e. differ′ e) (sym state-is ∙ z) in
+        (s .0, s .1, waits-only-while-all-fans-run 1 t (omega arith) (omega (arith, s .0)) (omega (arith, s .1)) (idle-free d t slots (s .2)))
+      where
+        differ : finished ≡ idle → ⊥
+        differ e = let z : _≡_ {A = ℕ} 0 1 = cc in omega arith
+
+        differ′ : shut ≡ idle → ⊥
+        differ′ e = let z : _≡_ {A = ℕ} 0 1 = cc in omega arith
+
+    -- a dose that is drawn Dosing has a slot that covers the tick, on the fan that the state names
+    pub dosing-has-that-fan : (fan : ℕ) → x .point .state ≡ dosing fan → Fed slots d t fan
+    dosing-has-that-fan fan z = fed-by d t slots fan (inside d t o slots (dosing fan) (λ e. differ e) (λ e. differ′ e) (sym state-is ∙ z) .2)
+      where
+        differ : finished ≡ dosing fan → ⊥
+        differ e = let z : _≡_ {A = ℕ} 0 1 = cc in omega arith
+
+        differ′ : shut ≡ dosing fan → ⊥
+        differ′ e = let z : _≡_ {A = ℕ} 0 1 = cc in omega arith

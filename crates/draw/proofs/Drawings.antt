@@ -1,9 +1,8 @@
 -- Drawing where the order is accepted and the plan stands: 11, 12, or the point; and the pen's move by a drawing. Assumes nothing.
-use mathlib.Core.Logic.{_≢_, inl, inr}
-use mathlib.Core.Path.{_≡_, refl, sym, ap, subst, _∙_}
+use mathlib.Core.Logic.{_≢_}
+use mathlib.Core.Path.{_≡_, refl, ap, _∙_}
 use mathlib.Core.List.{List}
 use Prim.Native.Nat.{ℕ, _+_, _<_, _≤_, min}
-use native.Mathlib.Nat.{le-of-lt, min-eq-left, min-eq-right}
 use native.Mathlib.Omega.{arith}
 use lib.ListN.{length}
 use Rattle.model.specs.Records.{read}
@@ -11,8 +10,7 @@ use Rattle.model.specs.Orders.{readOrder}
 use Rattle.model.specs.Orders as orders
 use Rattle.model.specs.Plans.{planRecords, slotsRead}
 use Rattle.model.specs.Line.{Point, pointAt}
-use Rattle.model.specs.Answers.{Drawn, Draws, Moves, Pen, at-end, done, draws, moves, no-dose, noPoint, refusal, refuses, too-late, week}
-use Rattle.model.proofs.Fractions.{compare≤}
+use Rattle.model.specs.Answers.{Answer, Drawn, Draws, Judges, Moves, at-end, done, draws, moves, no-dose, noPoint, refusal, refuses, too-late, week}
 use Rattle.model.proofs.Orders.{read-fits}
 use Rattle.order.specs.Held.{ReadFrom, asOrder, heldOrder, heldReading}
 use Rattle.order.specs.declared.Reading.{Reading}
@@ -54,15 +52,19 @@ module _ (order plan : List ℕ) (s : Sound order plan) (r : Reading) (h : ReadF
       rw (e ∙ ap (λ (u : orders.Order). pointAt u (slotsRead (planRecords plan)) d t) order-again)
       (draws o (s .accepts) (s .stands) (omega (arith, count-again)) g)
 
+-- a refusal of the order or the plan
+pub draws-refused : (order plan : List ℕ) (d t : ℕ) (a : Answer) → Judges order plan a → a .number ≢ 0 → (x : Drawn) → x ≡ noPoint a → Draws order plan d t x
+draws-refused order plan d t a j n x e = rw e (refuses a j n)
+
 -- ---- the pen
 
 -- "its answer is the point at the new tick": a drawing at the next tick, 604,801 for a pen that is already at or past 604,800
-pub moves-by : (order plan : List ℕ) (d t : ℕ) (x : Drawn) → Draws order plan d (min t 604800 + 1) x
+pub moves-by : (order plan : List ℕ) (d t next : ℕ) (x : Drawn) → next ≡ min t 604800 + 1 → Draws order plan d next x
     → (x .answer .number ≢ 0 → Moves order plan (record { dose = d; tick = t }) x (record { dose = d; tick = t }))
-    × (x .answer .number ≡ 0 → Moves order plan (record { dose = d; tick = t }) x (record { dose = d; tick = min t 604800 + 1 }))
-moves-by order plan d t x (refuses a j n) = (λ m. refuses a j n, λ e. absurd (n e))
-moves-by order plan d t x (no-dose o acc st l) = (λ m. no-dose o acc st l, λ e. absurd (omega arith))
-moves-by order plan d t x (too-late o acc st l g) = (λ m. at-end o acc st l (omega arith), λ e. absurd (omega arith))
-moves-by order plan d t x (draws o acc st l g) =
-    let e : min t 604800 ≡ t = omega arith in
+    × (x .answer .number ≡ 0 → Moves order plan (record { dose = d; tick = t }) x (record { dose = d; tick = next }))
+moves-by order plan d t next x q (refuses a j n) = (λ m. refuses a j n, λ e. absurd (n e))
+moves-by order plan d t next x q (no-dose o acc st l) = (λ m. no-dose o acc st l, λ e. absurd (omega arith))
+moves-by order plan d t next x q (too-late o acc st l g) = (λ m. at-end o acc st l (omega arith), λ e. absurd (omega arith))
+moves-by order plan d t next x q (draws o acc st l g) =
+    let e : next ≡ t + 1 = omega arith in
     (λ m. absurd (m refl), λ z. rw e (moves o acc st l (omega arith)))

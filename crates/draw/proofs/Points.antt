@@ -1,11 +1,13 @@
 -- A dose's state and amount by what the code holds, and what a plan that stands gives the code. Assumes nothing.
-use mathlib.Core.Path.{_≡_, refl, sym, ap, _∙_}
-use mathlib.Core.List.{List, _∷_}
-use Prim.Native.Nat.{ℕ, zero, suc, _+_, _*_, _/_, _<_, _≤_}
+use mathlib.Core.Path.{_≡_, sym, ap, _∙_}
+use mathlib.Core.List.{List}
+use Prim.Native.Nat.{ℕ, zero, suc, _+_, _/_, _<_, _≤_}
 use native.Mathlib.Nat.{add-suc, add-zero, le-of-mul-le-mul-right, mul-le-mul-right, suc-add, zero-add}
 use native.Mathlib.Omega.{arith}
 use borrow.Author.Tests.{le-leb, lt-leb, le-ltb, lt-ltb}
 use lib.ListN.{getD}
+use mir.Syntax.{w32}
+use mir.Val.{Fits}
 use Rattle.model.specs.Records.{read}
 use Rattle.model.specs.Orders.{doseAt, noDose, readOrder}
 use Rattle.model.specs.Orders as orders
@@ -14,7 +16,7 @@ use Rattle.model.specs.Intervals.{settingOf, fansPresent}
 use Rattle.model.specs.Plans.{Slot, planOf, planRecords, slotsIn, slotsRead}
 use Rattle.model.specs.Layout.{classesOf}
 use Rattle.model.specs.Stands.{Stands}
-use Rattle.model.specs.Line.{State, finished, shut, drawn, fedAt, stateAt, timeOf, unitsBefore}
+use Rattle.model.specs.Line.{finished, shut, fedAt, stateAt, timeOf, unitsBefore}
 use Rattle.model.proofs.Amounts.{drawn-near}
 use Rattle.model.proofs.Orders.{Fit, read-fits}
 use Rattle.model.proofs.DrawnLine.{InClass, Line, class-of}
@@ -72,12 +74,15 @@ module _ (b : List ℕ) (d : ℕ) (h : Drawable b d) where
   has-time = rw (slots-known b d h) (h .some-time)
 
   -- no amount is more than a dose may have
-  pub amount-most : (t : ℕ) → unitsBefore slots d t / timeOf slots d ≤ 1000000
+  amount-most : (t : ℕ) → unitsBefore slots d t / timeOf slots d ≤ 1000000
   amount-most t =
       rw (slots-known b d h)
       (le-of-mul-le-mul-right {k = timeOf (slotsIn (h .records)) d}
       (omega (arith, drawn-near (unitsBefore (slotsIn (h .records)) d t) (timeOf (slotsIn (h .records)) d) (h .some-time), h .units-most t))
       (h .some-time))
+
+  pub amount-fits : (t : ℕ) → Fits w32 (unitsBefore slots d t / timeOf slots d)
+  amount-fits t = omega (arith, amount-most t)
 
 -- ---- in a plan that stands
 

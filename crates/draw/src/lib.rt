@@ -30,9 +30,9 @@ pub struct Point {
 pub struct Drawn {
     pub number: u32,
     pub place: usize,
-    pub set: u32,
-    pub grams: u32,
-    pub time: u32,
+    pub set: u64,
+    pub grams: u64,
+    pub time: u64,
     pub point: Point,
 }
 
@@ -114,7 +114,10 @@ fn units_in(r: &[u8], dose: usize, tick: u32) -> u64
     if !own_slot(r, dose) {
         return 0;
     }
-    counted(slot_start(r), slot_end(r), units_to(r, tick))
+    let start = slot_start(r);
+    let end = slot_end(r);
+    let now = units_to(r, tick);
+    counted(start, end, now)
 }
 
 // "a slot covers the instant t (start at or before t, end after)"
@@ -220,7 +223,7 @@ fn point_of(o: Order, plan: &[u8], dose: usize, tick: u32) -> Point
 }
 
 // No point comes with a refusal.
-fn no_point(number: u32, place: usize, set: u32, grams: u32, time: u32) -> Drawn
+fn no_point(number: u32, place: usize, set: u64, grams: u64, time: u64) -> Drawn
     ensures { λ d. ⌜ asDrawn d ≡ noPoint (answerOf number place set grams time) ⌝ }
 {
     Drawn {

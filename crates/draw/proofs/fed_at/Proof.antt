@@ -2,19 +2,14 @@ use Rattle.order.proofs.Walks.{record-part, record-length}
 use Rattle.draw.proofs.Walks.{fedLeft, fed-found, fed-again, fed-end}
 use Rattle.model.specs.Line.{dosing}
 use Rattle.draw.specs.Drawing.{asState}
-use Prim.Native.Nat.{ℕ, _+_, _*_, _-_, _/_, _≤_, _<_}
+use Prim.Native.Nat.{_+_, _-_, _/_, _≤_}
 use mathlib.Core.Path.{_≡_, refl, sym, ap, _∙_}
-use mathlib.Core.List.{List}
 use native.Mathlib.Nat.{sub-zero}
 use native.Mathlib.Omega.{arith}
 use borrow.Author.Needs.{needs}
 use lib.ListN.{length}
 use Rattle.draw.proofs.fed_at.Statement.{statement}
 use Rattle.draw.proofs.fed_at.Tie as tie
-use Rattle.draw.proofs.fed_at.Reads as reads
-use Rattle.draw.proofs.fed_at.Lts as lts
-use Rattle.draw.proofs.feeds.Reads as feeds-reads
-use Rattle.field.proofs.read8.Reads as read8-reads
 
 abbrev Inv-loop : tie.InvT-loop
 Inv-loop plan dose tick n k₀ k = (k ≤ n) × (n ≡ length plan / 32) × (fedLeft plan dose tick k (n - k) ≡ fedLeft plan dose tick 0 n)

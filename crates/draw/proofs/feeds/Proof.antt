@@ -1,21 +1,10 @@
-use borrow.Author.Tests.{eq-eqb, ne-eqb, le-leb, lt-leb}
+use borrow.Author.Tests.{le-leb, lt-leb}
 use Rattle.order.proofs.Cases.{was-off, was-on, and-off, and-on}
-use Rattle.draw.specs.Drawing.{ownSlot, unitsIn, feedsAt}
-use Prim.Native.Nat.{ℕ, _+_, _*_, _-_, _/_, _≤_, _<_}
-use mathlib.Core.Path.{_≡_, refl, sym, ap, _∙_}
-use mathlib.Core.List.{List}
-use native.Mathlib.Nat.{sub-zero}
-use native.Mathlib.Omega.{arith}
-use lib.ListN.{length}
+use Rattle.draw.specs.Drawing.{feedsAt}
+use mathlib.Core.Path.{sym}
 use borrow.Author.Needs.{needs}
 use Rattle.draw.proofs.feeds.Statement.{statement}
 use Rattle.draw.proofs.feeds.Tie as tie
-use Rattle.draw.proofs.feeds.Reads as reads
-use Rattle.draw.proofs.feeds.Lts as lts
-use Rattle.draw.proofs.own_slot.Reads as own-slot-reads
-use Rattle.draw.proofs.slot_end.Reads as slot-end-reads
-use Rattle.draw.proofs.slot_start.Reads as slot-start-reads
-use Rattle.draw.proofs.units_to.Reads as units-to-reads
 
 own-slot-requires : tie.Need-own-slot-requires
 own-slot-requires c κs = search needs

@@ -1,18 +1,7 @@
 use Rattle.draw.proofs.Drawings.{drawable, draws-no-dose, draws-too-late, draws-point}
-use Prim.Native.Nat.{ℕ, _+_, _*_, _-_, _/_, _≤_, _<_}
-use mathlib.Core.Path.{_≡_, refl, sym, ap, _∙_}
-use mathlib.Core.List.{List}
-use native.Mathlib.Nat.{sub-zero}
-use native.Mathlib.Omega.{arith}
-use lib.ListN.{length}
 use borrow.Author.Needs.{needs}
 use Rattle.draw.proofs.in_plan.Statement.{statement}
 use Rattle.draw.proofs.in_plan.Tie as tie
-use Rattle.draw.proofs.in_plan.Reads as reads
-use Rattle.draw.proofs.in_plan.Lts as lts
-use Rattle.draw.proofs.no_point.Reads as no-point-reads
-use Rattle.draw.proofs.point_of.Reads as point-of-reads
-use Rattle.order.proofs.read_order.Reads as read-order-reads
 
 read-order-requires : tie.Need-read-order-requires
 read-order-requires c κs = search needs

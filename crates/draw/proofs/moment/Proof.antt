@@ -1,17 +1,9 @@
 use Rattle.draw.proofs.Walks.{product-most}
-use Prim.Native.Nat.{ℕ, _+_, _*_, _-_, _/_, _≤_, _<_}
-use mathlib.Core.Path.{_≡_, refl, sym, ap, _∙_}
-use mathlib.Core.List.{List}
-use native.Mathlib.Nat.{sub-zero}
+use mathlib.Core.Path.{_∙_}
 use native.Mathlib.Omega.{arith}
-use lib.ListN.{length}
 use borrow.Author.Needs.{needs}
 use Rattle.draw.proofs.moment.Statement.{statement}
 use Rattle.draw.proofs.moment.Tie as tie
-use Rattle.draw.proofs.moment.Reads as reads
-use Rattle.draw.proofs.moment.Lts as lts
-use Rattle.draw.proofs.wide.Reads as wide-reads
-use Rattle.field.proofs.read32.Reads as read32-reads
 
 read32-requires : tie.Need-read32-requires
 read32-requires c κs = search needs

@@ -1,20 +1,12 @@
-use borrow.Author.Tests.{eq-eqb, ne-eqb, le-leb, lt-leb}
-use Rattle.order.proofs.Cases.{was-off, was-on, and-off, and-on}
-use Rattle.draw.specs.Drawing.{ownSlot, unitsIn, feedsAt}
+use borrow.Author.Tests.{eq-eqb, ne-eqb}
+use Rattle.order.proofs.Cases.{and-off, and-on}
+use Rattle.draw.specs.Drawing.{ownSlot}
 use Rattle.model.specs.Records.{fieldsAt}
 use lib.Dec.{eqb}
-use Prim.Native.Nat.{ℕ, _+_, _*_, _-_, _/_, _≤_, _<_}
-use mathlib.Core.Path.{_≡_, refl, sym, ap, _∙_}
-use mathlib.Core.List.{List}
-use native.Mathlib.Nat.{sub-zero}
-use native.Mathlib.Omega.{arith}
-use lib.ListN.{length}
+use mathlib.Core.Path.{sym, ap}
 use borrow.Author.Needs.{needs}
 use Rattle.draw.proofs.own_slot.Statement.{statement}
 use Rattle.draw.proofs.own_slot.Tie as tie
-use Rattle.draw.proofs.own_slot.Reads as reads
-use Rattle.draw.proofs.own_slot.Lts as lts
-use Rattle.field.proofs.read16.Reads as read16-reads
 
 shared-slice-read-kind : tie.Need-shared-slice-read-kind
 shared-slice-read-kind c = search needs

@@ -1,20 +1,10 @@
-use Rattle.draw.proofs.Points.{has-time, amount-most}
+use Rattle.draw.proofs.Points.{has-time, amount-fits}
 use Rattle.model.specs.Line.{drawn}
-use Prim.Native.Nat.{ℕ, _+_, _*_, _-_, _/_, _≤_, _<_}
-use mathlib.Core.Path.{_≡_, refl, sym, ap, _∙_}
-use mathlib.Core.List.{List}
-use native.Mathlib.Nat.{sub-zero}
+use mathlib.Core.Path.{_∙_}
 use native.Mathlib.Omega.{arith}
-use lib.ListN.{length}
 use borrow.Author.Needs.{needs}
 use Rattle.draw.proofs.point_of.Statement.{statement}
 use Rattle.draw.proofs.point_of.Tie as tie
-use Rattle.draw.proofs.point_of.Reads as reads
-use Rattle.draw.proofs.point_of.Lts as lts
-use Rattle.draw.proofs.state_of.Reads as state-of-reads
-use Rattle.draw.proofs.time_of.Reads as time-of-reads
-use Rattle.draw.proofs.units_before.Reads as units-before-reads
-use Rattle.draw.proofs.wide.Reads as wide-reads
 
 units-before-requires : tie.Need-units-before-requires
 units-before-requires c κs = search needs
@@ -32,7 +22,7 @@ cast-amount : tie.Need-cast-amount
 cast-amount c =
     let p = c .wide .ensures .0 ∙ c .before .time-of .ensures in
     let u = c .before .before .units-before .ensures in
-    rw (p, u) (omega (arith, amount-most (c .before .before .before .before .args .plan .now) (c .before .before .before .before .args .dose) (c .before .before .before .before .pre .2) (c .before .before .before .before .args .tick)))
+    rw (p, u) (amount-fits _ _ (c .before .before .before .before .pre .2) _)
 
 state-of-requires : tie.Need-state-of-requires
 state-of-requires c κs = search needs

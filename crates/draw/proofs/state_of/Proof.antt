@@ -1,17 +1,10 @@
 use Rattle.draw.proofs.Points.{state-finished, state-shut, state-open}
 use Rattle.draw.specs.Drawing.{asState}
-use Prim.Native.Nat.{ℕ, _+_, _*_, _-_, _/_, _≤_, _<_}
-use mathlib.Core.Path.{_≡_, refl, sym, ap, _∙_}
-use mathlib.Core.List.{List}
-use native.Mathlib.Nat.{sub-zero}
+use mathlib.Core.Path.{_∙_}
 use native.Mathlib.Omega.{arith}
-use lib.ListN.{length}
 use borrow.Author.Needs.{needs}
 use Rattle.draw.proofs.state_of.Statement.{statement}
 use Rattle.draw.proofs.state_of.Tie as tie
-use Rattle.draw.proofs.state_of.Reads as reads
-use Rattle.draw.proofs.state_of.Lts as lts
-use Rattle.draw.proofs.fed_at.Reads as fed-at-reads
 
 mul-deadline : tie.Need-mul-deadline
 mul-deadline c = search needs

@@ -1,18 +1,13 @@
 use Rattle.order.proofs.Walks.{record-part, record-length}
 use Rattle.draw.proofs.Walks.{timeLeft, time-found, time-again, time-end}
-use Prim.Native.Nat.{ℕ, _+_, _*_, _-_, _/_, _≤_, _<_}
+use Prim.Native.Nat.{_+_, _-_, _/_, _≤_}
 use mathlib.Core.Path.{_≡_, refl, sym, ap, _∙_}
-use mathlib.Core.List.{List}
 use native.Mathlib.Nat.{sub-zero}
 use native.Mathlib.Omega.{arith}
 use borrow.Author.Needs.{needs}
 use lib.ListN.{length}
 use Rattle.draw.proofs.time_of.Statement.{statement}
 use Rattle.draw.proofs.time_of.Tie as tie
-use Rattle.draw.proofs.time_of.Reads as reads
-use Rattle.draw.proofs.time_of.Lts as lts
-use Rattle.draw.proofs.own_slot.Reads as own-slot-reads
-use Rattle.field.proofs.read32.Reads as read32-reads
 
 abbrev Inv-loop : tie.InvT-loop
 Inv-loop plan dose n k₀ k = (k ≤ n) × (n ≡ length plan / 32) × (timeLeft plan dose k (n - k) ≡ timeLeft plan dose 0 n)

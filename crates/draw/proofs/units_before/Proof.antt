@@ -1,17 +1,13 @@
 use Rattle.order.proofs.Walks.{record-part, record-length}
 use Rattle.draw.proofs.Walks.{unitsLeft, units-fit, units-again, units-end}
-use Prim.Native.Nat.{ℕ, _+_, _*_, _-_, _/_, _≤_, _<_}
-use mathlib.Core.Path.{_≡_, refl, sym, ap, _∙_}
-use mathlib.Core.List.{List}
+use Prim.Native.Nat.{_+_, _-_, _/_, _≤_}
+use mathlib.Core.Path.{_≡_, refl, ap, _∙_}
 use native.Mathlib.Nat.{sub-zero}
 use native.Mathlib.Omega.{arith}
 use borrow.Author.Needs.{needs}
 use lib.ListN.{length}
 use Rattle.draw.proofs.units_before.Statement.{statement}
 use Rattle.draw.proofs.units_before.Tie as tie
-use Rattle.draw.proofs.units_before.Reads as reads
-use Rattle.draw.proofs.units_before.Lts as lts
-use Rattle.draw.proofs.units_in.Reads as units-in-reads
 
 abbrev Inv-loop : tie.InvT-loop
 Inv-loop plan dose tick n sum₀ k₀ sum k = (k ≤ n) × (n ≡ length plan / 32) × (sum + unitsLeft plan dose tick k (n - k) ≡ unitsLeft plan dose tick 0 n)

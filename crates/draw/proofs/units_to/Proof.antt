@@ -1,18 +1,10 @@
 use Rattle.draw.proofs.Walks.{product-most}
 use Rattle.model.specs.Records.{fieldsAt}
-use Prim.Native.Nat.{ℕ, _+_, _*_, _-_, _/_, _≤_, _<_}
-use mathlib.Core.Path.{_≡_, refl, sym, ap, _∙_}
-use mathlib.Core.List.{List}
-use native.Mathlib.Nat.{sub-zero}
+use mathlib.Core.Path.{_∙_}
 use native.Mathlib.Omega.{arith}
-use lib.ListN.{length}
 use borrow.Author.Needs.{needs}
 use Rattle.draw.proofs.units_to.Statement.{statement}
 use Rattle.draw.proofs.units_to.Tie as tie
-use Rattle.draw.proofs.units_to.Reads as reads
-use Rattle.draw.proofs.units_to.Lts as lts
-use Rattle.draw.proofs.wide.Reads as wide-reads
-use Rattle.field.proofs.read32.Reads as read32-reads
 
 wide-requires : tie.Need-wide-requires
 wide-requires c κs = search needs
