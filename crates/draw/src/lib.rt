@@ -1,7 +1,6 @@
 // A dose's point at a tick (document 01, "The drawn line"), and the pen over it.
 ghost use mathlib.Core.Path.{_≡_};
-ghost use mathlib.Core.Bool.{Bool};
-ghost use Prim.Native.Nat.{ℕ, _+_, _*_, _-_, _<_, _≤_, min};
+ghost use Prim.Native.Nat.{_+_, _*_, _-_, _<_, _≤_, min};
 ghost use lib.ListN.{length};
 ghost use Rattle.model.specs.Records.{numberAt};
 ghost use Rattle.model.specs.Plans.{slotOf, slotsRead, planRecords};
