@@ -1,0 +1,123 @@
+-- Demand 3 over the answers themselves: for all orders, plans, doses and ticks for which drawing answers 0. A pen's answer is a drawing at its new tick (moved-drawn of Answers).
+-- Assumes nothing.
+use mathlib.Core.Logic.{_⊎_}
+use mathlib.Core.Path.{_≡_, sym, ap, _∙_}
+use mathlib.Core.List.{List}
+use Prim.Native.Nat.{ℕ, _+_, _*_, _≤_, _<_}
+use native.Mathlib.Omega.{arith}
+use lib.Dec.{T}
+use Rattle.model.specs.Sets.{Doses}
+use Rattle.model.specs.Records.{read}
+use Rattle.model.specs.Orders.{Order, doseAt, readOrder}
+use Rattle.model.specs.Classes.{Classes, W, classP}
+use Rattle.model.specs.Intervals.{fansPresent, settingOf}
+use Rattle.model.specs.Plans.{Slot, planRecords, slotsRead}
+use Rattle.model.specs.Stands.{ends, starts}
+use Rattle.model.specs.Line.{HasFan, OneOf, RunsAt, dosing, drawn, finished, gramsOf, idle, shut, stateAt, timeOf, unitsBefore}
+use Rattle.model.specs.Answers.{Drawn, Draws}
+use Rattle.model.proofs.Demand3 as demand
+use Rattle.draw.proofs.States.{Fed, fed-by, idle-free, inside}
+use Rattle.draw.proofs.Answers.{Done, drawn-done}
+
+module _ (order plan : List ℕ) (d : ℕ) where
+  -- the slots of the plan
+  abbrev slots : List Slot
+  slots = slotsRead (planRecords plan)
+
+  -- drawing dose d at tick t answered 0, and x
+  pub record Answers (t : ℕ) (x : Drawn) : Type 0 where
+    pub draws : Draws order plan d t x
+    pub zero : x .answer .number ≡ 0
+
+  done : (t : ℕ) (x : Drawn) → Answers t x → Done order plan d t x
+  done t x a = drawn-done order plan d t x (a .draws) (a .zero)
+
+  amount-is : (t : ℕ) (x : Drawn) → Answers t x → x .point .amount ≡ drawn slots d t
+  amount-is t x a = ap (λ (y : Drawn). y .point .amount) (done t x a .is)
+
+  -- "the drawn amount is behind the exact one by less than a gram and never ahead"
+  pub behind-never-ahead : (t : ℕ) (x : Drawn) → Answers t x
+      → (x .point .amount * timeOf slots d ≤ unitsBefore slots d t) × (unitsBefore slots d t < (x .point .amount + 1) * timeOf slots d)
+  behind-never-ahead t x a =
+      let s = done t x a in
+      rw (amount-is t x a) (demand.behind-never-ahead order (s .sound .read-order) (s .sound .accepts .reads) plan (s .sound .stands) d (s .listed) t)
+
+  module _ (t h : ℕ) (x y : Drawn) (a : Answers t x) (b : Answers (t + h) y) where
+    -- "over h seconds it rises by less than h × rate + 1 gram"
+    pub rises-slowly : y .point .amount * timeOf slots d < x .point .amount * timeOf slots d + h * gramsOf slots d + timeOf slots d
+    rises-slowly =
+        let s = done t x a in
+        rw (amount-is t x a, amount-is (t + h) y b)
+        (demand.rises-slowly order (s .sound .read-order) (s .sound .accepts .reads) plan (s .sound .stands) d (s .listed) t h)
+
+    -- and never falls
+    pub never-falls : x .point .amount ≤ y .point .amount
+    never-falls =
+        let s = done t x a in
+        rw (amount-is t x a, amount-is (t + h) y b)
+        (demand.never-falls order (s .sound .read-order) (s .sound .accepts .reads) plan (s .sound .stands) d (s .listed) t h)
+
+    -- "and not at all where the dose has no slot time"
+    pub still-without-slot-time : ((s : Slot) → OneOf slots s → s .dose ≡ d → (ends s ≤ t * s .grams) ⊎ ((t + h) * s .grams ≤ starts s))
+        → y .point .amount ≡ x .point .amount
+    still-without-slot-time g =
+        let s = done t x a in
+        rw (amount-is t x a, amount-is (t + h) y b)
+        (demand.still-without-slot-time order (s .sound .read-order) (s .sound .accepts .reads) plan (s .sound .stands) d (s .listed) t h g)
+
+  module _ (t : ℕ) (x : Drawn) (a : Answers t x) (o : Order) (e : readOrder order ≡ read o) where
+    same-order : done t x a .sound .read-order ≡ o
+    same-order = let f = done t x a .sound .accepts .reads in cc
+
+    -- the dose is one of the order's
+    pub listed : d < settingOf o .doses
+    listed = rw same-order at (done t x a .listed)
+
+    -- "zero up to the start"
+    pub zero-up-to-the-start : t ≤ doseAt o d .release → x .point .amount ≡ 0
+    zero-up-to-the-start l =
+        let s = done t x a in
+        amount-is t x a ∙ demand.zero-up-to-the-start order (s .sound .read-order) (s .sound .accepts .reads) plan (s .sound .stands) d (s .listed) t (rw same-order l)
+
+    -- "all the grams from the deadline on"
+    pub all-from-the-deadline : doseAt o d .deadline ≤ t → x .point .amount ≡ doseAt o d .grams
+    all-from-the-deadline l =
+        let s = done t x a in
+        amount-is t x a ∙ demand.all-from-the-deadline order (s .sound .read-order) (s .sound .accepts .reads) plan (s .sound .stands) d (s .listed) t (rw same-order l)
+        ∙ ap (λ (u : Order). doseAt u d .grams) same-order
+
+    -- the W and P of the dose's slots, its rate, are those of its class
+    pub rate-of-its-class : (p : ℕ) (C : ℕ → Doses) → Classes (settingOf o) (fansPresent o) p C → (i : ℕ) → i < p → T (C i d)
+        → (gramsOf slots d ≡ W (settingOf o) (C i)) × (timeOf slots d ≡ classP (settingOf o) (fansPresent o) C i)
+    rate-of-its-class = demand.rate-of-its-class order o e plan (rw same-order at (done t x a .sound .stands)) d listed
+
+    -- "Inside its window a dose is without a fan only if every fan is running, each at that dose's rate or above"
+    pub waits-only-while-all-fans-run : (q m : ℕ) → 0 < q → q * doseAt o d .release ≤ m → m < q * doseAt o d .deadline → (HasFan slots q m d → ⊥)
+        → (f : ℕ) → 1 ≤ f → f ≤ o .fans → RunsAt slots q m f (gramsOf slots d) (timeOf slots d)
+    waits-only-while-all-fans-run = demand.waits-only-while-all-fans-run order o e plan (rw same-order at (done t x a .sound .stands)) d listed
+
+    state-is : x .point .state ≡ stateAt o slots d t
+    state-is = ap (λ (y : Drawn). y .point .state) (done t x a .is) ∙ ap (λ (u : Order). stateAt u slots d t) same-order
+
+    -- a dose that is drawn Idle is inside its window, and every fan is running, each at that dose's rate or above
+    pub idle-only-while-all-fans-run : x .point .state ≡ idle
+        → (doseAt o d .release ≤ t) × (t < doseAt o d .deadline) × ((f : ℕ) → 1 ≤ f → f ≤ o .fans → RunsAt slots 1 t f (gramsOf slots d) (timeOf slots d))
+    idle-only-while-all-fans-run z =
+        let s = inside d t o slots idle (λ e. differ e) (λ e. differ′ e) (sym state-is ∙ z) in
+        (s .0, s .1, waits-only-while-all-fans-run 1 t (omega arith) (omega (arith, s .0)) (omega (arith, s .1)) (idle-free d t slots (s .2)))
+      where
+        differ : finished ≡ idle → ⊥
+        differ e = let z : _≡_ {A = ℕ} 0 1 = cc in omega arith
+
+        differ′ : shut ≡ idle → ⊥
+        differ′ e = let z : _≡_ {A = ℕ} 0 1 = cc in omega arith
+
+    -- a dose that is drawn Dosing has a slot that covers the tick, on the fan that the state names
+    pub dosing-has-that-fan : (fan : ℕ) → x .point .state ≡ dosing fan → Fed slots d t fan
+    dosing-has-that-fan fan z = fed-by d t slots fan (inside d t o slots (dosing fan) (λ e. differ e) (λ e. differ′ e) (sym state-is ∙ z) .2)
+      where
+        differ : finished ≡ dosing fan → ⊥
+        differ e = let z : _≡_ {A = ℕ} 0 1 = cc in omega arith
+
+        differ′ : shut ≡ dosing fan → ⊥
+        differ′ e = let z : _≡_ {A = ℕ} 0 1 = cc in omega arith

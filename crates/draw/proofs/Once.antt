@@ -1,0 +1,48 @@
+-- Two structs that a promise of `draw` allows for one input are equal. Assumes nothing.
+use mathlib.Core.Path.{_≡_, refl, sym, ap, _∙_}
+use mathlib.Core.List.{List}
+use Prim.Native.Nat.{ℕ}
+use Rattle.model.specs.Line.{dosing, finished, idle, shut}
+use Rattle.model.specs.Line as line
+use Rattle.model.specs.Answers.{Draws}
+use Rattle.model.specs.Answers as answers
+use Rattle.draw.specs.Drawing.{asDrawn, asState}
+use Rattle.draw.specs.declared.State.{State}
+use Rattle.draw.specs.declared.State.the-variants as is
+use Rattle.draw.specs.declared.Drawn.{Drawn}
+use Rattle.draw.proofs.Answers.{draws-once}
+
+-- the structs, from what they say
+unfoldable heldState : line.State → State
+heldState finished = is.Finished
+heldState shut = is.Shut
+heldState idle = is.Idle
+heldState (dosing fan) = is.Dosing fan
+
+abbrev heldDrawn : answers.Drawn → Drawn
+heldDrawn d = record {
+  number = d .answer .number;
+  place = d .answer .place;
+  set = d .answer .set;
+  grams = d .answer .grams;
+  time = d .answer .time;
+  point = record { amount = d .point .amount; state = heldState (d .point .state) };
+}
+
+state-back : (s : State) → heldState (asState s) ≡ s
+unfolding heldState asState
+state-back is.Finished = refl
+state-back is.Shut = refl
+state-back is.Idle = refl
+state-back (is.Dosing fan) = refl
+
+drawn-back : (d : Drawn) → heldDrawn (asDrawn d) ≡ d
+drawn-back d = rw (state-back (d .point .state))
+
+-- a drawing that says the same is the same
+pub drawn-one : (x y : Drawn) → asDrawn x ≡ asDrawn y → x ≡ y
+drawn-one x y e = sym (drawn-back x) ∙ ap heldDrawn e ∙ drawn-back y
+
+-- point_at has one answer for each input
+pub points-once : (order plan : List ℕ) (dose tick : ℕ) (x y : Drawn) → Draws order plan dose tick (asDrawn x) → Draws order plan dose tick (asDrawn y) → x ≡ y
+points-once order plan dose tick x y a b = drawn-one x y (draws-once order plan dose tick (asDrawn x) (asDrawn y) a b)

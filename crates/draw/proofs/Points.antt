@@ -1,0 +1,118 @@
+-- A dose's state and amount by what the code holds, and what a plan that stands gives the code. Assumes nothing.
+use mathlib.Core.Path.{_≡_, sym, ap, _∙_}
+use mathlib.Core.List.{List}
+use Prim.Native.Nat.{ℕ, zero, suc, _+_, _/_, _<_, _≤_}
+use native.Mathlib.Nat.{add-suc, add-zero, le-of-mul-le-mul-right, mul-le-mul-right, suc-add, zero-add}
+use native.Mathlib.Omega.{arith}
+use borrow.Author.Tests.{le-leb, lt-leb, le-ltb, lt-ltb}
+use lib.ListN.{getD}
+use mir.Syntax.{w32}
+use mir.Val.{Fits}
+use Rattle.model.specs.Records.{read}
+use Rattle.model.specs.Orders.{doseAt, noDose, readOrder}
+use Rattle.model.specs.Orders as orders
+use Rattle.model.specs.Classes.{classP}
+use Rattle.model.specs.Intervals.{settingOf, fansPresent}
+use Rattle.model.specs.Plans.{Slot, planOf, planRecords, slotsIn, slotsRead}
+use Rattle.model.specs.Layout.{classesOf}
+use Rattle.model.specs.Stands.{Stands}
+use Rattle.model.specs.Line.{finished, shut, fedAt, stateAt, timeOf, unitsBefore}
+use Rattle.model.proofs.Amounts.{drawn-near}
+use Rattle.model.proofs.Orders.{Fit, read-fits}
+use Rattle.model.proofs.DrawnLine.{InClass, Line, class-of}
+use Rattle.model.proofs.Planner.{stand-read, time-most}
+use Rattle.model.proofs.Standing.{plan-line, plan-rate}
+use Rattle.order.specs.Held.{asOrder, doseHeld, dosesFrom}
+use Rattle.order.specs.declared.Order.{Order}
+use Rattle.draw.specs.Drawing.{Drawable}
+
+-- ---- a dose of the order
+
+held-from : (o : Order) (j n k : ℕ) → k < n → getD (dosesFrom o j n) k noDose ≡ doseHeld o (j + k)
+unfolding dosesFrom
+held-from o j zero k h = absurd (omega arith)
+held-from o j (suc n) zero h = rw (add-zero j)
+held-from o j (suc n) (suc k) h = held-from o (suc j) n k (omega arith) ∙ ap (doseHeld o) (suc-add j k ∙ sym (add-suc j k))
+
+-- dose d as the arrays hold it
+pub dose-held : (o : Order) (d : ℕ) → d < o .count → doseAt (asOrder o) d ≡ doseHeld o d
+unfolding asOrder
+dose-held o d h = held-from o 0 (o .count) d h ∙ ap (doseHeld o) (zero-add d)
+
+-- ---- its state
+
+module _ (o : Order) (slots : List Slot) (d t : ℕ) (dn : d < o .count) where
+  abbrev release : ℕ
+  release = getD (o .release) d 0
+
+  abbrev deadline : ℕ
+  deadline = getD (o .deadline) d 0
+
+  pub state-finished : deadline ≤ t → finished ≡ stateAt (asOrder o) slots d t
+  unfolding stateAt
+  state-finished h = rw (dose-held o d dn, le-leb deadline t h)
+
+  pub state-shut : t < deadline → t < release → shut ≡ stateAt (asOrder o) slots d t
+  unfolding stateAt
+  state-shut h g = rw (dose-held o d dn, lt-leb deadline t h, lt-ltb t release g)
+
+  pub state-open : t < deadline → release ≤ t → fedAt slots d t ≡ stateAt (asOrder o) slots d t
+  unfolding stateAt
+  state-open h g = rw (dose-held o d dn, lt-leb deadline t h, le-ltb t release g)
+
+-- ---- its amount
+
+-- the slots of bytes whose records are known
+pub slots-known : (b : List ℕ) (d : ℕ) (h : Drawable b d) → slotsRead (planRecords b) ≡ slotsIn (h .records)
+slots-known b d h = rw (h .are)
+
+module _ (b : List ℕ) (d : ℕ) (h : Drawable b d) where
+  abbrev slots : List Slot
+  slots = slotsRead (planRecords b)
+
+  pub has-time : 0 < timeOf slots d
+  has-time = rw (slots-known b d h) (h .some-time)
+
+  -- no amount is more than a dose may have
+  amount-most : (t : ℕ) → unitsBefore slots d t / timeOf slots d ≤ 1000000
+  amount-most t =
+      rw (slots-known b d h)
+      (le-of-mul-le-mul-right {k = timeOf (slotsIn (h .records)) d}
+      (omega (arith, drawn-near (unitsBefore (slotsIn (h .records)) d t) (timeOf (slotsIn (h .records)) d) (h .some-time), h .units-most t))
+      (h .some-time))
+
+  pub amount-fits : (t : ℕ) → Fits w32 (unitsBefore slots d t / timeOf slots d)
+  amount-fits t = omega (arith, amount-most t)
+
+-- ---- in a plan that stands
+
+-- a dose of an order that was read, in plan bytes that stand for it
+pub stands-drawable : (order : List ℕ) (o : orders.Order) → readOrder order ≡ read o → (plan : List ℕ) → Stands o plan → (d : ℕ) → d < settingOf o .doses → Drawable plan d
+stands-drawable order o e plan st d dn = record {
+  records = planOf (classesOf o (st .count) (st .sets)) (st .slots);
+  are = st .records;
+  some-time = rw same (line .some-time);
+  time-most = rw (same, rate) (time-most o fit (st .count) (st .sets) (own .class));
+  units-most = λ t. rw same (omega (
+    arith,
+    line .up t (doseAt o d .deadline),
+    line .late (t + doseAt o d .deadline) (omega arith),
+    line .all-units,
+    mul-le-mul-right {m = doseAt o d .grams} {n = 1000000} (timeOf (slotsRead (planRecords plan)) d) (fit .light d dn),
+  ));
+}
+  where
+    fit : Fit o
+    fit = read-fits order o e
+
+    line : Line o (slotsRead (planRecords plan)) d
+    line = plan-line o plan st fit d dn
+
+    own : InClass (st .count) (st .sets) d
+    own = class-of o fit (st .count) (st .sets) (st .classes) (slotsRead (planRecords plan)) (stand-read st) d dn
+
+    same : slotsIn (planOf (classesOf o (st .count) (st .sets)) (st .slots)) ≡ slotsRead (planRecords plan)
+    same = rw (st .records)
+
+    rate : timeOf (slotsRead (planRecords plan)) d ≡ classP (settingOf o) (fansPresent o) (st .sets) (own .class)
+    rate = plan-rate o plan st fit d dn (st .count) (st .sets) (st .classes) (own .class) (own .known) (own .member) .1

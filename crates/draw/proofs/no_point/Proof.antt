@@ -1,0 +1,11 @@
+use Rattle.draw.specs.Drawing.{asState}
+use mathlib.Core.Path.{refl}
+use Rattle.draw.proofs.no_point.Statement.{statement}
+use Rattle.draw.proofs.no_point.Tie as tie
+
+returns : tie.Need-returns
+unfolding asState
+returns c = refl
+
+pub no-point-spec : {M : Type 1} → statement M
+no-point-spec = tie.close (tie.spec returns)

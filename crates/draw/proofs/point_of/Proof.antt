@@ -1,0 +1,47 @@
+use Rattle.draw.proofs.Points.{has-time, amount-fits}
+use Rattle.model.specs.Line.{drawn}
+use mathlib.Core.Path.{_∙_}
+use native.Mathlib.Omega.{arith}
+use borrow.Author.Needs.{needs}
+use Rattle.draw.proofs.point_of.Statement.{statement}
+use Rattle.draw.proofs.point_of.Tie as tie
+
+units-before-requires : tie.Need-units-before-requires
+units-before-requires c κs = search needs
+
+time-of-requires : tie.Need-time-of-requires
+time-of-requires c κs = search needs
+
+wide-requires : tie.Need-wide-requires
+wide-requires c κs = search needs
+
+div-amount : tie.Need-div-amount
+div-amount c = omega (arith, c .wide .ensures .0, c .before .time-of .ensures, has-time (c .before .before .before .before .args .plan .now) (c .before .before .before .before .args .dose) (c .before .before .before .before .pre .2))
+
+cast-amount : tie.Need-cast-amount
+cast-amount c =
+    let p = c .wide .ensures .0 ∙ c .before .time-of .ensures in
+    let u = c .before .before .units-before .ensures in
+    rw (p, u) (amount-fits _ _ (c .before .before .before .before .pre .2) _)
+
+state-of-requires : tie.Need-state-of-requires
+state-of-requires c κs = search needs
+
+returns : tie.Need-returns
+unfolding drawn
+returns c =
+    let p = c .before .wide .ensures .0 ∙ c .before .before .time-of .ensures in
+    let u = c .before .before .before .units-before .ensures in
+    rw (p, u, c .state-of .ensures)
+
+pub point-of-spec : {M : Type 1} → statement M
+point-of-spec =
+    tie.close
+    (tie.spec
+    units-before-requires
+    time-of-requires
+    wide-requires
+    div-amount
+    cast-amount
+    state-of-requires
+    returns)

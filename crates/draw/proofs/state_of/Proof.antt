@@ -1,0 +1,46 @@
+use Rattle.draw.proofs.Points.{state-finished, state-shut, state-open}
+use Rattle.draw.specs.Drawing.{asState}
+use mathlib.Core.Path.{_∙_}
+use native.Mathlib.Omega.{arith}
+use borrow.Author.Needs.{needs}
+use Rattle.draw.proofs.state_of.Statement.{statement}
+use Rattle.draw.proofs.state_of.Tie as tie
+
+mul-deadline : tie.Need-mul-deadline
+mul-deadline c = search needs
+
+element-copy-out-deadline : tie.Need-element-copy-out-deadline
+element-copy-out-deadline c = search needs
+
+returns : tie.Need-returns
+unfolding asState
+returns c = state-finished (c .before .before .before .args .t1) _ (c .before .before .before .args .dose) (c .before .before .before .args .tick) (omega arith) (c .if1 .taken)
+
+mul-release : tie.Need-mul-release
+mul-release c = search needs
+
+element-copy-out-release : tie.Need-element-copy-out-release
+element-copy-out-release c = search needs
+
+returns-2 : tie.Need-returns-2
+unfolding asState
+returns-2 c = state-shut (c .before .before .before .before .before .args .t1) _ (c .before .before .before .before .before .args .dose) (c .before .before .before .before .before .args .tick) (omega arith) (c .before .before .if1 .left) (c .if2 .taken)
+
+fed-at-requires : tie.Need-fed-at-requires
+fed-at-requires c κs = search needs
+
+returns-3 : tie.Need-returns-3
+returns-3 c = c .fed-at .ensures ∙ state-open (c .before .before .before .before .before .before .args .t1) _ (c .before .before .before .before .before .before .args .dose) (c .before .before .before .before .before .before .args .tick) (omega arith) (c .before .before .before .if1 .left) (c .before .if2 .left)
+
+pub state-of-spec : {M : Type 1} → statement M
+state-of-spec =
+    tie.close
+    (tie.spec
+    mul-deadline
+    element-copy-out-deadline
+    returns
+    mul-release
+    element-copy-out-release
+    returns-2
+    fed-at-requires
+    returns-3)

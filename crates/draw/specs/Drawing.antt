@@ -1,0 +1,69 @@
+-- How the structs of `draw` hold what document 01 speaks of, what one record adds to a dose's line, and what the inner functions ask of plan bytes.
+use mathlib.Core.Path.{_≡_}
+use mathlib.Core.Bool.{Bool, _&&_}
+use mathlib.Core.List.{List}
+use Prim.Native.Nat.{ℕ, _*_, _-_, _≤_, _<_, min}
+use lib.Dec.{eqb, leb, ltb}
+use lib.ListN.{getD}
+use Rattle.model.specs.Sets.{on}
+use Rattle.model.specs.Records.{read}
+use Rattle.model.specs.Plans.{PlanRecord, slotOf, slotsIn, planRecords}
+use Rattle.model.specs.Stands.{starts, ends}
+use Rattle.model.specs.Line.{finished, shut, idle, dosing, unitsBefore, timeOf}
+use Rattle.model.specs.Line as line
+use Rattle.model.specs.Orders.{Order}
+use Rattle.model.specs.Stands.{Stands}
+use Rattle.model.specs.Answers.{Answer, Accepts}
+use Rattle.model.specs.Answers as answers
+use Rattle.draw.specs.declared.State.{State}
+use Rattle.draw.specs.declared.State.the-variants as is
+use Rattle.draw.specs.declared.Point.{Point}
+use Rattle.draw.specs.declared.Drawn.{Drawn}
+
+-- ---- points
+
+unfoldable pub asState : State → line.State
+asState is.Finished = finished
+asState is.Shut = shut
+asState is.Idle = idle
+asState (is.Dosing fan) = dosing fan
+
+abbrev pub asPoint : Point → line.Point
+asPoint p = record { amount = p .amount; state = asState (p .state) }
+
+-- the answer in five numbers
+abbrev pub answerOf : ℕ → ℕ → ℕ → ℕ → ℕ → Answer
+answerOf number place set grams time = record { number = number; place = place; set = set; grams = grams; time = time }
+
+abbrev pub asDrawn : Drawn → answers.Drawn
+asDrawn d = record { answer = answerOf (d .number) (d .place) (d .set) (d .grams) (d .time); point = asPoint (d .point) }
+
+-- ---- one record of 32 bytes
+
+-- it is a slot of dose d
+unfoldable pub ownSlot : List ℕ → ℕ → Bool
+ownSlot r d = eqb (getD r 0 0) 0x53 && eqb d (slotOf r .dose)
+
+-- its units of dose d before tick t
+unfoldable pub unitsIn : List ℕ → ℕ → ℕ → ℕ
+unitsIn r d t = on (ownSlot r d) (min (ends (slotOf r)) (t * slotOf r .grams) - starts (slotOf r))
+
+-- it covers the instant t for dose d
+unfoldable pub feedsAt : List ℕ → ℕ → ℕ → Bool
+feedsAt r d t = ownSlot r d && leb (starts (slotOf r)) (t * slotOf r .grams) && ltb (t * slotOf r .grams) (ends (slotOf r))
+
+-- ---- plan bytes
+
+-- the bytes are records, dose d has a P, and no more units than a dose may have: so in every plan that stands (proofs/Standing)
+pub record Drawable (plan : List ℕ) (d : ℕ) : Type 0 where
+  pub records : List PlanRecord
+  pub are : planRecords plan ≡ read records
+  pub some-time : 0 < timeOf (slotsIn records) d
+  pub time-most : timeOf (slotsIn records) d ≤ 4838400
+  pub units-most : (t : ℕ) → unitsBefore (slotsIn records) d t ≤ 1000000 * timeOf (slotsIn records) d
+
+-- the order is accepted and the plan stands for it: what is left to check is 11 and 12
+pub record Sound (order plan : List ℕ) : Type 0 where
+  pub read-order : Order
+  pub accepts : Accepts order read-order
+  pub stands : Stands read-order plan

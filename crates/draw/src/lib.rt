@@ -1,0 +1,264 @@
+// A dose's point at a tick (document 01, "The drawn line"), and the pen over it.
+ghost use mathlib.Core.Path.{_≡_};
+ghost use Prim.Native.Nat.{_+_, _*_, _-_, _<_, _≤_, min};
+ghost use lib.ListN.{length};
+ghost use Rattle.model.specs.Records.{numberAt};
+ghost use Rattle.model.specs.Plans.{slotOf, slotsRead, planRecords};
+ghost use Rattle.model.specs.Stands.{starts, ends};
+ghost use Rattle.model.specs.Line.{unitsBefore, timeOf, fedAt, stateAt, pointAt};
+ghost use Rattle.model.specs.Answers.{noPoint, Draws};
+ghost use Rattle.order.specs.Held.{asOrder};
+ghost use Rattle.draw.specs.Drawing.{asState, asPoint, asDrawn, answerOf, ownSlot, unitsIn, feedsAt, Drawable, Sound};
+use order::Order;
+
+// "one of four states"; "Dosing carries the fan number"
+pub enum State {
+    Finished,
+    Shut,
+    Idle,
+    Dosing(u32),
+}
+
+// "A point is an amount together with one of four states"
+pub struct Point {
+    pub amount: u32,
+    pub state: State,
+}
+
+// The number and place, refusal 9's set, W and P, and the point: "Fields not meant are 0, and a state not meant is Shut."
+pub struct Drawn {
+    pub number: u32,
+    pub place: usize,
+    pub set: u64,
+    pub grams: u64,
+    pub time: u64,
+    pub point: Point,
+}
+
+fn wide(x: u32) -> u64
+    ensures { λ r. ⌜ (r ≡ x) × (r < 4294967296) ⌝ }
+{
+    x as u64
+}
+
+// The moment at a place of an S record, in units of 1/W tick: "A moment is a tick plus part/W".
+fn moment(r: &[u8], at: usize) -> u64
+    requires { ⌜ (length (now r) ≡ 32) × (at ≤ 16) ⌝ }
+    ensures { λ m. ⌜ m ≡ numberAt (now (r .entry)) at 4 * numberAt (now (r .entry)) 20 4 + numberAt (now (r .entry)) (at + 4) 4 ⌝ }
+{
+    let tick = wide(field::read32(r, at));
+    let part = wide(field::read32(r, at + 4));
+    let w = wide(field::read32(r, 20));
+    tick * w + part
+}
+
+fn slot_start(r: &[u8]) -> u64
+    requires { ⌜ length (now r) ≡ 32 ⌝ }
+    ensures { λ m. ⌜ m ≡ starts (slotOf (now (r .entry))) ⌝ }
+{
+    moment(r, 4)
+}
+
+fn slot_end(r: &[u8]) -> u64
+    requires { ⌜ length (now r) ≡ 32 ⌝ }
+    ensures { λ m. ⌜ m ≡ ends (slotOf (now (r .entry))) ⌝ }
+{
+    moment(r, 12)
+}
+
+// A tick in units of the slot's 1/W tick.
+fn units_to(r: &[u8], tick: u32) -> u64
+    requires { ⌜ length (now r) ≡ 32 ⌝ }
+    ensures { λ m. ⌜ m ≡ tick * slotOf (now (r .entry)) .grams ⌝ }
+{
+    let t = wide(tick);
+    let w = wide(field::read32(r, 20));
+    t * w
+}
+
+// The units from a slot's start to its end that lie before a moment.
+fn counted(start: u64, end: u64, now: u64) -> u64
+    ensures { λ u. ⌜ u ≡ min end now - start ⌝ }
+{
+    if now <= start {
+        return 0;
+    }
+    if end <= start {
+        return 0;
+    }
+    if now < end {
+        return now - start;
+    }
+    end - start
+}
+
+// Whether a record is a slot of the dose.
+fn own_slot(r: &[u8], dose: usize) -> bool
+    requires { ⌜ length (now r) ≡ 32 ⌝ }
+    ensures { λ t. ⌜ t ≡ ownSlot (now (r .entry)) dose ⌝ }
+{
+    let kind = r[0];
+    if kind != 0x53 {
+        return false;
+    }
+    let d = field::read16(r, 2) as usize;
+    dose == d
+}
+
+// "units of the dose's slots before t", in one record
+fn units_in(r: &[u8], dose: usize, tick: u32) -> u64
+    requires { ⌜ length (now r) ≡ 32 ⌝ }
+    ensures { λ u. ⌜ u ≡ unitsIn (now (r .entry)) dose tick ⌝ }
+{
+    if !own_slot(r, dose) {
+        return 0;
+    }
+    let start = slot_start(r);
+    let end = slot_end(r);
+    let now = units_to(r, tick);
+    counted(start, end, now)
+}
+
+// "a slot covers the instant t (start at or before t, end after)"
+fn feeds(r: &[u8], dose: usize, tick: u32) -> bool
+    requires { ⌜ length (now r) ≡ 32 ⌝ }
+    ensures { λ t. ⌜ t ≡ feedsAt (now (r .entry)) dose tick ⌝ }
+{
+    if !own_slot(r, dose) {
+        return false;
+    }
+    let now = units_to(r, tick);
+    let start = slot_start(r);
+    if now < start {
+        return false;
+    }
+    let end = slot_end(r);
+    now < end
+}
+
+// "units of the dose's slots before t"
+fn units_before(plan: &[u8], dose: usize, tick: u32) -> u64
+    requires { ⌜ Drawable (now plan) dose ⌝ }
+    ensures { λ u. ⌜ u ≡ unitsBefore (slotsRead (planRecords (now (plan .entry)))) dose tick ⌝ }
+{
+    let n = plan.len() / 32;
+    let mut sum = 0;
+    let mut k = 0;
+    while k < n {
+        let a = 32 * k;
+        let e = a + 32;
+        let u = units_in(&plan[a..e], dose, tick);
+        sum += u;
+        k += 1;
+    }
+    sum
+}
+
+// The P that the dose's slots name, as the first has it.
+fn time_of(plan: &[u8], dose: usize) -> u32
+    requires { ⌜ Drawable (now plan) dose ⌝ }
+    ensures { λ p. ⌜ p ≡ timeOf (slotsRead (planRecords (now (plan .entry)))) dose ⌝ }
+{
+    let n = plan.len() / 32;
+    let mut k = 0;
+    while k < n {
+        let a = 32 * k;
+        let e = a + 32;
+        if own_slot(&plan[a..e], dose) {
+            return field::read32(&plan[a..e], 24);
+        }
+        k += 1;
+    }
+    0
+}
+
+// "Dosing if a slot covers the instant t .., else Idle"
+fn fed_at(plan: &[u8], dose: usize, tick: u32) -> State
+    requires { ⌜ Drawable (now plan) dose ⌝ }
+    ensures { λ s. ⌜ asState s ≡ fedAt (slotsRead (planRecords (now (plan .entry)))) dose tick ⌝ }
+{
+    let n = plan.len() / 32;
+    let mut k = 0;
+    while k < n {
+        let a = 32 * k;
+        let e = a + 32;
+        if feeds(&plan[a..e], dose, tick) {
+            return State::Dosing(field::read8(&plan[a..e], 1));
+        }
+        k += 1;
+    }
+    State::Idle
+}
+
+// "Finished if t is at or past the deadline, else Shut before the release, else Dosing .., else Idle"
+fn state_of(o: Order, plan: &[u8], dose: usize, tick: u32) -> State
+    requires { ⌜ (o .count ≤ 24) × (dose < o .count) × Drawable (now plan) dose ⌝ }
+    ensures { λ s. ⌜ asState s ≡ stateAt (asOrder o) (slotsRead (planRecords (now (plan .entry)))) dose tick ⌝ }
+{
+    let deadline = o.deadline[dose];
+    if deadline <= tick {
+        return State::Finished;
+    }
+    let release = o.release[dose];
+    if tick < release {
+        return State::Shut;
+    }
+    fed_at(plan, dose, tick)
+}
+
+// "Exact amount at tick t: units of the dose's slots before t, divided by P. Drawn amount: its whole part, one division at the end."
+fn point_of(o: Order, plan: &[u8], dose: usize, tick: u32) -> Point
+    requires { ⌜ (o .count ≤ 24) × (dose < o .count) × Drawable (now plan) dose ⌝ }
+    ensures { λ p. ⌜ asPoint p ≡ pointAt (asOrder o) (slotsRead (planRecords (now (plan .entry)))) dose tick ⌝ }
+{
+    let units = units_before(plan, dose, tick);
+    let time = wide(time_of(plan, dose));
+    let amount = (units / time) as u32;
+    let state = state_of(o, plan, dose, tick);
+    Point {
+        amount: amount,
+        state: state,
+    }
+}
+
+// No point comes with a refusal.
+fn no_point(number: u32, place: usize, set: u64, grams: u64, time: u64) -> Drawn
+    ensures { λ d. ⌜ asDrawn d ≡ noPoint (answerOf number place set grams time) ⌝ }
+{
+    Drawn {
+        number: number,
+        place: place,
+        set: set,
+        grams: grams,
+        time: time,
+        point: Point {
+            amount: 0,
+            state: State::Shut,
+        },
+    }
+}
+
+// "then .. 11, 12", where the order is accepted and the plan stands.
+fn in_plan(order: &[u8], plan: &[u8], dose: usize, tick: u32) -> Drawn
+    requires { ⌜ Sound (now order) (now plan) ⌝ }
+    ensures { λ d. ⌜ Draws (now (order .entry)) (now (plan .entry)) dose tick (asDrawn d) ⌝ }
+{
+    let r = order::read_order(order);
+    let o = r.order;
+    let n = o.count;
+    if n <= dose {
+        return no_point(11, 0, 0, 0, 0);
+    }
+    if 604800 < tick {
+        return no_point(12, 0, 0, 0, 0);
+    }
+    let p = point_of(o, plan, dose, tick);
+    Drawn {
+        number: 0,
+        place: 0,
+        set: 0,
+        grams: 0,
+        time: 0,
+        point: p,
+    }
+}
