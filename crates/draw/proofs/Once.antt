@@ -6,11 +6,11 @@ use Rattle.model.specs.Line.{dosing, finished, idle, shut}
 use Rattle.model.specs.Line as line
 use Rattle.model.specs.Answers.{Draws}
 use Rattle.model.specs.Answers as answers
+use Rattle.model.proofs.Answers.{draws-one}
 use Rattle.draw.specs.Drawing.{asDrawn, asState}
 use Rattle.draw.specs.declared.State.{State}
 use Rattle.draw.specs.declared.State.the-variants as is
 use Rattle.draw.specs.declared.Drawn.{Drawn}
-use Rattle.draw.proofs.Answers.{draws-once}
 
 -- the structs, from what they say
 unfoldable heldState : line.State → State
@@ -45,4 +45,4 @@ drawn-one x y e = sym (drawn-back x) ∙ ap heldDrawn e ∙ drawn-back y
 
 -- point_at has one answer for each input
 pub points-once : (order plan : List ℕ) (dose tick : ℕ) (x y : Drawn) → Draws order plan dose tick (asDrawn x) → Draws order plan dose tick (asDrawn y) → x ≡ y
-points-once order plan dose tick x y a b = drawn-one x y (draws-once order plan dose tick (asDrawn x) (asDrawn y) a b)
+points-once order plan dose tick x y a b = drawn-one x y (draws-one a b)

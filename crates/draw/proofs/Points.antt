@@ -1,8 +1,8 @@
 -- A dose's state and amount by what the code holds, and what a plan that stands gives the code. Assumes nothing.
-use mathlib.Core.Path.{_≡_, sym, ap, _∙_}
+use mathlib.Core.Path.{_≡_, ap, _∙_}
 use mathlib.Core.List.{List}
-use Prim.Native.Nat.{ℕ, zero, suc, _+_, _/_, _<_, _≤_}
-use native.Mathlib.Nat.{add-suc, add-zero, le-of-mul-le-mul-right, mul-le-mul-right, suc-add, zero-add}
+use Prim.Native.Nat.{ℕ, _+_, _/_, _<_, _≤_}
+use native.Mathlib.Nat.{le-of-mul-le-mul-right, mul-le-mul-right, zero-add}
 use native.Mathlib.Omega.{arith}
 use borrow.Author.Tests.{le-leb, lt-leb, le-ltb, lt-ltb}
 use lib.ListN.{getD}
@@ -24,20 +24,15 @@ use Rattle.model.proofs.Planner.{stand-read, time-most}
 use Rattle.model.proofs.Standing.{plan-line, plan-rate}
 use Rattle.order.specs.Held.{asOrder, doseHeld, dosesFrom}
 use Rattle.order.specs.declared.Order.{Order}
+use Rattle.order.proofs.Columns.{run-at}
 use Rattle.draw.specs.Drawing.{Drawable}
 
 -- ---- a dose of the order
 
-held-from : (o : Order) (j n k : ℕ) → k < n → getD (dosesFrom o j n) k noDose ≡ doseHeld o (j + k)
-unfolding dosesFrom
-held-from o j zero k h = absurd (omega arith)
-held-from o j (suc n) zero h = rw (add-zero j)
-held-from o j (suc n) (suc k) h = held-from o (suc j) n k (omega arith) ∙ ap (doseHeld o) (suc-add j k ∙ sym (add-suc j k))
-
 -- dose d as the arrays hold it
 pub dose-held : (o : Order) (d : ℕ) → d < o .count → doseAt (asOrder o) d ≡ doseHeld o d
-unfolding asOrder
-dose-held o d h = held-from o 0 (o .count) d h ∙ ap (doseHeld o) (zero-add d)
+unfolding asOrder dosesFrom
+dose-held o d h = run-at (doseHeld o) 0 (o .count) d noDose h ∙ ap (doseHeld o) (zero-add d)
 
 -- ---- its state
 

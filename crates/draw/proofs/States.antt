@@ -1,6 +1,6 @@
 -- Dosing is a slot that covers the instant, and Idle is none. Assumes nothing.
 use mathlib.Core.Bool.{Bool, true, false, _&&_}
-use mathlib.Core.Path.{_≡_, refl, sym, ap, _∙_}
+use mathlib.Core.Path.{_≡_, refl, sym}
 use mathlib.Core.List.{List, [], _∷_}
 use Prim.Native.Nat.{ℕ, zero, suc, _*_, _<_, _≤_}
 use native.Mathlib.Omega.{arith}
@@ -11,7 +11,7 @@ use Rattle.model.specs.Records.{pick}
 use Rattle.model.specs.Orders.{Order, doseAt}
 use Rattle.model.specs.Plans.{Slot}
 use Rattle.model.specs.Stands.{starts, ends}
-use Rattle.model.specs.Line.{Covers, HasFan, OneOf, State, dosing, fedAt, finished, idle, shut, stateAt}
+use Rattle.model.specs.Line.{Covers, HasFan, State, dosing, fedAt, finished, idle, shut, stateAt}
 
 -- the three tests of a slot
 abbrev tests : ℕ → ℕ → Slot → Bool
