@@ -1,6 +1,6 @@
 -- Laws of one share and of the shares of a class: numbers that fit, room in the buffer, slots written. Assumes nothing.
-use mathlib.Core.Path.{_≡_, refl, sym, ap, _∙_}
-use mathlib.Core.List.{List, [], _∷_, map}
+use mathlib.Core.Path.{_≡_, refl, ap, _∙_}
+use mathlib.Core.List.{List, map}
 use Prim.Native.Nat.{ℕ, _+_, _*_, _/_, _%_, _≤_, _<_}
 use native.Mathlib.Nat.{div-le-of-le-mul, mod-lt, mul-le-mul-right, mul-pos}
 use native.Mathlib.Numerals.{add-one}
@@ -12,7 +12,6 @@ use Rattle.model.specs.Lists.{gather}
 use Rattle.model.specs.Plans.{Slot, planRecordBytes, slotRecord}
 use Rattle.model.specs.Layout.{Lane, before, behind, cut, laneSlots, line, pieceSlot, uncut}
 use Rattle.model.proofs.Lists.{map-gather, sum-before}
-use Rattle.model.proofs.Plans.{length-one}
 use Rattle.model.proofs.Wrap.{cut-none, cut-two, cut-uncut}
 use Rattle.layout.specs.Laying.{Ready, Room, Rooms, Wrote}
 use Rattle.layout.proofs.Runs.{gather-fits, gather-more, gather-none, wrote-more, wrote-none, wrote-one}

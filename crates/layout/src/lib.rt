@@ -1,7 +1,7 @@
 // Records of a plan written into a lent buffer, and slots laid by wrap-around (document 01, "From classes to slots").
 ghost use mathlib.Core.Path.{_≡_};
 ghost use mathlib.Core.List.{_++_, map};
-ghost use Prim.Native.Nat.{ℕ, _+_, _*_, _<_, _≤_};
+ghost use Prim.Native.Nat.{_+_, _*_, _<_, _≤_};
 ghost use lib.ListN.{length, getD};
 ghost use Rattle.field.specs.Written.{written};
 ghost use Rattle.model.specs.Records.{numberBytes};

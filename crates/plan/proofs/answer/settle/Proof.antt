@@ -1,0 +1,33 @@
+use Rattle.plan.proofs.Answering.{slow-enough, too-fast}
+use borrow.Author.Needs.{needs}
+use Rattle.plan.proofs.answer.settle.Statement.{statement}
+use Rattle.plan.proofs.answer.settle.Tie as tie
+
+too-fast-requires : tie.Need-too-fast-requires
+too-fast-requires c κs = search needs
+
+refused-class-requires : tie.Need-refused-class-requires
+refused-class-requires c κs = search needs
+
+returns : tie.Need-returns
+returns c = too-fast _ _ (c .before .before .too-fast .ensures) (c .before .if1 .taken) (c .refused-class .ensures)
+
+write-order-requires : tie.Need-write-order-requires
+write-order-requires c κs = search needs
+
+same-length : tie.Need-same-length
+same-length c = search needs
+
+returns-2 : tie.Need-returns-2
+returns-2 c = slow-enough (c .before .before .before .before .before .too-fast .ensures) (c .before .before .before .before .if1 .left) (c .before .before .write-order .ensures)
+
+pub settle-spec : {M : Type 1} → statement M
+settle-spec =
+    tie.close
+    (tie.spec
+    too-fast-requires
+    refused-class-requires
+    returns
+    write-order-requires
+    same-length
+    returns-2)

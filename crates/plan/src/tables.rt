@@ -1,0 +1,52 @@
+// The tables that slots are laid by, from an order's instants and classes.
+use interval::Instants;
+use layout::Tables;
+ghost use mathlib.Core.Path.{_≡_};
+ghost use Prim.Native.Nat.{ℕ, _-_, _%_, _<_};
+ghost use lib.ListN.{getD};
+ghost use Rattle.plan.specs.Held.{TablesOf};
+
+// W and P are at most 24 × 1,000,000 and 8 × 604,800: numbers of four bytes.
+fn narrow(wide: [u64; 24]) -> [u32; 24]
+    ensures { λ r. ⌜ ((i : ℕ) → i < 24 → getD r i 0 ≡ getD wide i 0 % 4294967296) ⌝ }
+{
+    let mut numbers = [0u32; 24];
+    let mut i = 0;
+    while i < 24 {
+        numbers[i] = (wide[i] % 4294967296) as u32;
+        i += 1;
+    }
+    numbers
+}
+
+// Instants "bound the intervals".
+fn interval_count(s: Instants) -> usize
+    ensures { λ r. ⌜ r ≡ s .count - 1 ⌝ }
+{
+    if s.count == 0 { 0 } else { s.count - 1 }
+}
+
+pub fn tables_of(
+    doses: usize,
+    s: Instants,
+    classes: usize,
+    class_of: [u8; 24],
+    grams: [u64; 24],
+    time: [u64; 24],
+) -> Tables
+    ensures { λ r. ⌜ TablesOf doses s classes «class_of» grams time r ⌝ }
+{
+    let instants = s.at;
+    let intervals = interval_count(s);
+    let narrow_grams = narrow(grams);
+    let narrow_time = narrow(time);
+    Tables {
+        doses,
+        classes,
+        intervals,
+        instants,
+        grams: narrow_grams,
+        time: narrow_time,
+        class_of,
+    }
+}

@@ -1,0 +1,71 @@
+// The records of a plan in the lent buffer: "classes by number, then slots by interval, fan, start".
+use layout::Class;
+use layout::Tables;
+ghost use mathlib.Core.Path.{_≡_};
+ghost use Prim.Native.Nat.{_+_, _*_, _<_, _≤_};
+ghost use lib.ListN.{length};
+ghost use Rattle.model.specs.Sets.{on, weight};
+ghost use Rattle.model.specs.Plans.{classRecord};
+ghost use Rattle.model.specs.Layout.{tableSlots};
+ghost use Rattle.model.specs.Answers.{overwritten};
+ghost use Rattle.layout.specs.Held.{asClass, tableFrom};
+ghost use Rattle.layout.specs.Laying.{Filled, Wrote};
+ghost use Rattle.plan.specs.Held.{membersFrom, classFrom, classesFrom, bytesFrom};
+
+fn one_if(test: bool) -> u32
+    ensures { λ r. ⌜ (r ≡ on test 1) × (r ≤ 1) ⌝ }
+{
+    if test { 1 } else { 0 }
+}
+
+// "doses in it": how many doses are of class i.
+fn doses_in(t: Tables, i: usize) -> u32
+    requires { ⌜ t .doses ≤ 24 ⌝ }
+    ensures { λ r. ⌜ r ≡ weight (t .doses) (λ k. 1) (membersFrom t i) ⌝ }
+{
+    let mut count: u32 = 0;
+    let mut k = 0;
+    while k < t.doses {
+        let mine = t.class_of[k] as usize == i;
+        count += one_if(mine);
+        k += 1;
+    }
+    count
+}
+
+// "1 class number from 1; 2-3 doses in it; 4-7 W; 8-11 P"
+fn class_at(t: Tables, i: usize) -> Class
+    requires { ⌜ (t .doses ≤ 24) × (i < 24) ⌝ }
+    ensures { λ r. ⌜ asClass r ≡ classFrom t i ⌝ }
+{
+    Class {
+        number: i as u32 + 1,
+        doses: doses_in(t, i),
+        grams: t.grams[i],
+        time: t.time[i],
+    }
+}
+
+// The C records, from the buffer's first byte on. Gives back the next record's index.
+fn put_classes(b: &mut [u8], t: Tables) -> usize
+    requires { ⌜ (t .doses ≤ 24) × (t .classes ≤ 24) × (32 * t .classes ≤ length (now b)) ⌝ }
+    ensures { λ q. ⌜ Wrote classRecord (classesFrom t) (now (b .entry)) 0 (now (b .exit)) q ⌝ }
+{
+    let mut i = 0;
+    while i < t.classes {
+        layout::put_class(b, 32 * i, class_at(t, i));
+        i += 1;
+    }
+    i
+}
+
+// The whole plan of the arrays, in front of the rest of the buffer. Gives back how many slots it has.
+pub fn write_plan(b: &mut [u8], t: Tables, shares: &[u64], reserved: &[[u8; 47]; 24]) -> usize
+    requires { ⌜ Filled t (now shares) (now reserved) × (32 * (t .classes + length (tableSlots (tableFrom t (now shares) (now reserved)))) ≤ length (now b)) ⌝ }
+    ensures slots { λ r. ⌜ r ≡ length (tableSlots (tableFrom t (now (shares .entry)) (now (reserved .entry)))) ⌝ }
+    ensures bytes { λ _. ⌜ now (b .exit) ≡ overwritten (now (b .entry)) (bytesFrom t (now (shares .entry)) (now (reserved .entry))) ⌝ }
+{
+    let first = put_classes(b, t);
+    let next = layout::lay_all(b, first, t, shares, reserved);
+    next - first
+}
