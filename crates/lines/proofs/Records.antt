@@ -1,0 +1,111 @@
+-- Laws of the lines of records: the numbers of a line are the record's fields, and a line is at most 160 bytes long. Assumes nothing.
+use mathlib.Core.Path.{_≡_}
+use mathlib.Core.Bool.{Bool, true, false}
+use mathlib.Core.List.{List, [], _∷_, _++_}
+use Prim.Native.Nat.{ℕ, zero, suc, _+_, _*_, _-_, _≤_}
+use native.Mathlib.Omega.{arith}
+use native.Mathlib.Numerals.{add-one}
+use borrow.Author.Tests.{eq-eqb, ne-eqb}
+use lib.Dec.{eqb}
+use lib.ListN.{length, getD, take, drop, length-append}
+use Rattle.model.specs.Lists.{gather}
+use Rattle.model.specs.Records.{pick, numberAt, fieldsAt, recordAt}
+use Rattle.model.specs.Plans.{Class, Slot, classOf, slotOf}
+use Rattle.lines.specs.Text.{Put, lineText, numbersText, classText, slotText, refusedText, recordText}
+use Rattle.lines.proofs.Puts.{numbers-length, put-none, put-more}
+
+-- ---- lengths
+
+line-length : (word vs : List ℕ) → length (lineText word vs) ≤ length word + 21 * length vs + 1
+line-length word vs =
+    omega (arith, length-append word (numbersText vs ++ (10 ∷ [])), length-append (numbersText vs) (10 ∷ []), numbers-length vs)
+
+class-length : (c : Class) → length (classText c) ≤ 160
+unfolding classText
+class-length c = omega (arith, line-length (99 ∷ 108 ∷ 97 ∷ 115 ∷ 115 ∷ []) (c .number ∷ c .doses ∷ c .grams ∷ c .time ∷ []))
+
+slot-length : (s : Slot) → length (slotText s) ≤ 160
+unfolding slotText
+slot-length s =
+    omega (
+      arith,
+      line-length (115 ∷ 108 ∷ 111 ∷ 116 ∷ []) (s .fan ∷ s .dose ∷ s .startTick ∷ s .startPart ∷ s .endTick ∷ s .endPart ∷ s .class ∷ []),
+    )
+
+-- the line of a record is at most 160 bytes
+pub record-length : (r : List ℕ) → length (recordText r) ≤ 160
+unfolding recordText
+record-length r = go (eqb (getD r 0 0) 0x43)
+  where
+    go : (t : Bool) → length (pick t (classText (classOf r)) (slotText (slotOf r))) ≤ 160
+    go true = class-length (classOf r)
+    go false = slot-length (slotOf r)
+
+module _ {b b′ : List ℕ} {at e : ℕ} where
+  -- ---- a record's fields
+
+  pub put-class-fields : (r : List ℕ) {n d w p : ℕ} → n ≡ numberAt r 1 1 → d ≡ numberAt r 2 2 → w ≡ numberAt r 4 4 → p ≡ numberAt r 8 4
+      → Put (lineText (99 ∷ 108 ∷ 97 ∷ 115 ∷ 115 ∷ []) (n ∷ d ∷ w ∷ p ∷ [])) b at b′ e → Put (classText (classOf r)) b at b′ e
+  unfolding fieldsAt classText
+  put-class-fields r hn hd hw hp h = rw (hn, hd, hw, hp) at h
+
+  pub put-slot-fields : (r : List ℕ) {f d st sp et ep c : ℕ} → f ≡ numberAt r 1 1 → d ≡ numberAt r 2 2 → st ≡ numberAt r 4 4 → sp ≡ numberAt r 8 4
+      → et ≡ numberAt r 12 4 → ep ≡ numberAt r 16 4 → c ≡ numberAt r 28 1
+      → Put (lineText (115 ∷ 108 ∷ 111 ∷ 116 ∷ []) (f ∷ d ∷ st ∷ sp ∷ et ∷ ep ∷ c ∷ [])) b at b′ e → Put (slotText (slotOf r)) b at b′ e
+  unfolding fieldsAt slotText
+  put-slot-fields r hf hd hst hsp het hep hc h = rw (hf, hd, hst, hsp, het, hep, hc) at h
+
+  -- ---- its kind
+
+  pub put-of-class : (r : List ℕ) → getD r 0 0 ≡ 0x43 → Put (classText (classOf r)) b at b′ e → Put (recordText r) b at b′ e
+  unfolding recordText
+  put-of-class r k h = rw (eq-eqb (getD r 0 0) 0x43 k) h
+
+  pub put-of-slot : (r : List ℕ) → (getD r 0 0 ≡ 0x43 → ⊥) → Put (slotText (slotOf r)) b at b′ e → Put (recordText r) b at b′ e
+  unfolding recordText
+  put-of-slot r k h = rw (ne-eqb (getD r 0 0) 0x43 k) h
+
+  -- ---- its place
+
+  pub put-at : (plan : List ℕ) (i : ℕ) → Put (recordText (take (32 * i + 32 - 32 * i) (drop (32 * i) plan))) b at b′ e → Put (recordText (recordAt plan i)) b at b′ e
+  put-at plan i h = let q : 32 * i + 32 - 32 * i ≡ 32 = omega arith in rw q at h
+
+  -- ---- a refusal
+
+  pub put-nine : (number place set grams time : ℕ) → number ≡ 9
+      → Put (lineText (114 ∷ 101 ∷ 102 ∷ 117 ∷ 115 ∷ 101 ∷ 100 ∷ []) (number ∷ place ∷ set ∷ grams ∷ time ∷ [])) b at b′ e
+      → Put (refusedText number place set grams time) b at b′ e
+  unfolding refusedText
+  put-nine number place set grams time k h = rw (eq-eqb number 9 k) h
+
+  pub put-other : (number place set grams time : ℕ) → (number ≡ 9 → ⊥)
+      → Put (lineText (114 ∷ 101 ∷ 102 ∷ 117 ∷ 115 ∷ 101 ∷ 100 ∷ []) (number ∷ place ∷ [])) b at b′ e
+      → Put (refusedText number place set grams time) b at b′ e
+  unfolding refusedText
+  put-other number place set grams time k h = rw (ne-eqb number 9 k) h
+
+-- ---- records in a row
+
+module _ (plan b₀ : List ℕ) where
+  -- the line of record k
+  abbrev lineOf : ℕ → List ℕ
+  lineOf k = recordText (recordAt plan k)
+
+  pub records-none : Put (gather 0 lineOf) b₀ 0 b₀ 0
+  unfolding gather
+  records-none = put-none b₀ 0
+
+  pub records-more : {b b′ : List ℕ} {at at′ : ℕ} (i : ℕ) → Put (gather i lineOf) b₀ 0 b at → Put (lineOf i) b at b′ at′
+      → Put (gather (i + 1) lineOf) b₀ 0 b′ at′
+  unfolding gather
+  records-more i h g = rw add-one (put-more h g)
+
+  records-length : (i : ℕ) → length (gather i lineOf) ≤ 160 * i
+  unfolding gather
+  records-length zero = omega arith
+  records-length (suc i) =
+      omega (arith, length-append (gather i lineOf) (lineOf i), record-length (recordAt plan i), records-length i)
+
+  -- where the next line begins
+  pub records-end : {b : List ℕ} {at : ℕ} (i : ℕ) → Put (gather i lineOf) b₀ 0 b at → at ≤ 160 * i
+  records-end i h = omega (arith, h .next, records-length i)

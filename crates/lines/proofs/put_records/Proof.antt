@@ -1,0 +1,53 @@
+use Prim.Native.Nat.{_≤_, _-_}
+use mathlib.Core.Path.{_≡_, refl}
+use native.Mathlib.Omega.{arith}
+use lib.ListN.{length}
+use Rattle.lines.proofs.Puts.{put-length}
+use Rattle.lines.proofs.Records.{records-none, records-more, records-end}
+use borrow.Author.Needs.{needs}
+use Rattle.model.specs.Lists.{gather}
+use Rattle.model.specs.Records.{recordAt}
+use Rattle.lines.specs.Text.{Put, recordText}
+use Rattle.lines.proofs.put_records.Statement.{statement}
+use Rattle.lines.proofs.put_records.Tie as tie
+
+abbrev Inv-loop : tie.InvT-loop
+Inv-loop b₀ plan n at₀ i₀ b at i = (i ≤ n) × (length b ≡ length b₀) × Put (gather i (λ k. recordText (recordAt plan k))) b₀ 0 b at
+
+abbrev μ-loop : tie.MeasureT-loop
+μ-loop b₀ plan n at₀ i₀ b at i = n - i
+
+loop-holds : tie.Need-loop-holds Inv-loop μ-loop
+loop-holds c = (omega arith, refl, records-none (c .before .before .args .plan .now) _)
+
+put-record-at-requires : tie.Need-put-record-at-requires Inv-loop μ-loop
+put-record-at-requires c κs = (omega arith, omega (arith, records-end (c .before .before .before .before .before .args .plan .now) _ _ (c .before .before .loop .inv .2)))
+
+add-i : tie.Need-add-i Inv-loop μ-loop
+add-i c = search needs
+
+loop-less : tie.Need-loop-less Inv-loop μ-loop
+loop-less c = search needs
+
+loop-again : tie.Need-loop-again Inv-loop μ-loop
+loop-again c = (omega arith, omega (arith, put-length (c .before .before .put-record-at .ensures)), records-more (c .before .before .before .before .before .before .before .before .args .plan .now) _ _ (c .before .before .before .before .before .loop .inv .2) (c .before .before .put-record-at .ensures))
+
+same-length : tie.Need-same-length Inv-loop μ-loop
+same-length c = search needs
+
+returns : tie.Need-returns Inv-loop μ-loop
+returns c = let e : c .before .loop .i ≡ c .before .before .before .before .args .n = omega arith in rw e at (c .before .loop .inv .2)
+
+pub put-records-spec : {M : Type 1} → statement M
+put-records-spec =
+    tie.close
+    (tie.spec
+    Inv-loop
+    μ-loop
+    loop-holds
+    put-record-at-requires
+    add-i
+    loop-less
+    loop-again
+    same-length
+    returns)

@@ -1,0 +1,88 @@
+-- The printer's text, byte by byte (document 01, "The plan printer").
+use mathlib.Core.Path.{_≡_}
+use mathlib.Core.List.{List, [], _∷_, _++_}
+use Prim.Native.Nat.{ℕ, zero, suc, _+_, _*_, _-_, _/_, _%_}
+use lib.Dec.{eqb, ltb}
+use lib.ListN.{length, getD}
+use Rattle.field.specs.Written.{written}
+use Rattle.model.specs.Lists.{gather}
+use Rattle.model.specs.Records.{pick, recordAt}
+use Rattle.model.specs.Plans.{Class, Slot, PlanRecord, classRecord, slotRecord, classOf, slotOf}
+
+-- ---- numbers
+
+-- a number in decimal, at most so many places: the digits of its tenth part, then its last digit
+unfoldable pub decimal : ℕ → ℕ → List ℕ
+decimal zero v = []
+decimal (suc places) v = pick (ltb v 10) ((48 + v) ∷ []) (decimal places (v / 10) ++ ((48 + v % 10) ∷ []))
+
+-- the number that digits say, behind a number that was read before them
+unfoldable pub readOn : ℕ → List ℕ → ℕ
+readOn before [] = before
+readOn before (d ∷ ds) = readOn (before * 10 + (d - 48)) ds
+
+-- ---- lines
+
+-- a number behind a space; 20 places hold any number of 64 bits
+abbrev pub numberText : ℕ → List ℕ
+numberText v = (32 ∷ []) ++ decimal 20 v
+
+-- numbers, each behind a space
+unfoldable pub numbersText : List ℕ → List ℕ
+numbersText [] = []
+numbersText (v ∷ vs) = numberText v ++ numbersText vs
+
+-- a word, its numbers and the end of the line
+abbrev pub lineText : List ℕ → List ℕ → List ℕ
+lineText word vs = word ++ (numbersText vs ++ (10 ∷ []))
+
+-- "`class` number, doses, W, P"
+unfoldable pub classText : Class → List ℕ
+classText c = lineText (99 ∷ 108 ∷ 97 ∷ 115 ∷ 115 ∷ []) (c .number ∷ c .doses ∷ c .grams ∷ c .time ∷ [])
+
+-- "`slot` fan, dose, start tick, part, end tick, part, class"
+unfoldable pub slotText : Slot → List ℕ
+slotText s =
+    lineText (115 ∷ 108 ∷ 111 ∷ 116 ∷ [])
+    (s .fan ∷ s .dose ∷ s .startTick ∷ s .startPart ∷ s .endTick ∷ s .endPart ∷ s .class ∷ [])
+
+-- "`total` classes, slots"
+unfoldable pub totalText : ℕ → ℕ → List ℕ
+totalText classes slots = lineText (116 ∷ 111 ∷ 116 ∷ 97 ∷ 108 ∷ []) (classes ∷ slots ∷ [])
+
+-- "A refusal prints `refused` number place, and for 9 also the set, W, P."
+unfoldable pub refusedText : ℕ → ℕ → ℕ → ℕ → ℕ → List ℕ
+refusedText number place set grams time =
+    lineText (114 ∷ 101 ∷ 102 ∷ 117 ∷ 115 ∷ 101 ∷ 100 ∷ [])
+    (pick (eqb number 9) (number ∷ place ∷ set ∷ grams ∷ time ∷ []) (number ∷ place ∷ []))
+
+-- ---- a plan
+
+-- the line of a record, by its kind
+unfoldable pub recordText : List ℕ → List ℕ
+recordText r = pick (eqb (getD r 0 0) 0x43) (classText (classOf r)) (slotText (slotOf r))
+
+-- the lines of the first n records of plan bytes
+abbrev pub recordsText : List ℕ → ℕ → List ℕ
+recordsText bytes n = gather n (λ i. recordText (recordAt bytes i))
+
+-- a line for each class and slot of plan bytes, and the total
+unfoldable pub planText : List ℕ → ℕ → ℕ → List ℕ
+planText bytes classes slots = recordsText bytes (classes + slots) ++ totalText classes slots
+
+-- the line of what a record says
+abbrev pub saidText : PlanRecord → List ℕ
+saidText (classRecord c) = classText c
+saidText (slotRecord s) = slotText s
+
+-- the lines of what records say
+unfoldable pub saidLines : List PlanRecord → List ℕ
+saidLines [] = []
+saidLines (r ∷ rs) = saidText r ++ saidLines rs
+
+-- ---- a text in a buffer
+
+-- the text is in the buffer from the place `at` on, every other byte is as it was, and `end` is the place behind the text
+pub record Put (text before : List ℕ) (at : ℕ) (after : List ℕ) (end : ℕ) : Type 0 where
+  pub next : end ≡ at + length text
+  pub now : after ≡ written before at text

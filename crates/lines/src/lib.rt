@@ -1,0 +1,197 @@
+// The printer's text, written into a lent buffer (document 01, "The plan printer").
+ghost use mathlib.Core.Path.{_≡_};
+ghost use Prim.Native.Nat.{_+_, _*_, _<_, _≤_};
+ghost use lib.ListN.{length};
+ghost use Rattle.model.specs.Records.{numberAt, recordAt};
+ghost use Rattle.model.specs.Plans.{classOf, slotOf};
+ghost use Rattle.lines.specs.Text.{decimal, numberText, numbersText, lineText, classText, slotText, totalText, refusedText, recordText, recordsText, planText, Put};
+
+// Writes a number in decimal, in at most so many places. Gives back the place behind it.
+fn put_decimal(b: &mut [u8], at: usize, v: u64, places: usize) -> usize
+    requires { ⌜ at + places ≤ length (now b) ⌝ }
+    ensures { λ r. ⌜ Put (decimal places v) (now (b .entry)) at (now (b .exit)) r ⌝ }
+{
+    if places == 0 {
+        return at;
+    }
+    if v < 10 {
+        b[at] = 48 + v as u8;
+        return at + 1;
+    }
+    let last = put_decimal(b, at, v / 10, places - 1);
+    b[last] = 48 + (v % 10) as u8;
+    last + 1
+}
+
+// Writes a space and a number.
+fn put_number(b: &mut [u8], at: usize, v: u64) -> usize
+    requires { ⌜ at + 21 ≤ length (now b) ⌝ }
+    ensures { λ r. ⌜ Put (numberText v) (now (b .entry)) at (now (b .exit)) r ⌝ }
+{
+    b[at] = 32;
+    put_decimal(b, at + 1, v, 20)
+}
+
+// Writes numbers, each behind a space.
+fn put_numbers(b: &mut [u8], at: usize, numbers: &[u64]) -> usize
+    requires { ⌜ at + 21 * length (now numbers) ≤ length (now b) ⌝ }
+    ensures { λ r. ⌜ Put (numbersText (now (numbers .entry))) (now (b .entry)) at (now (b .exit)) r ⌝ }
+{
+    let mut next = at;
+    let mut i = 0;
+    while i < numbers.len() {
+        next = put_number(b, next, numbers[i]);
+        i += 1;
+    }
+    next
+}
+
+// Writes the bytes of a word.
+fn put_word(b: &mut [u8], at: usize, word: &[u8]) -> usize
+    requires { ⌜ at + length (now word) ≤ length (now b) ⌝ }
+    ensures { λ r. ⌜ Put (now (word .entry)) (now (b .entry)) at (now (b .exit)) r ⌝ }
+{
+    let mut i = 0;
+    while i < word.len() {
+        b[at + i] = word[i];
+        i += 1;
+    }
+    at + i
+}
+
+// Writes a line: a word, its numbers, a newline.
+fn put_line(b: &mut [u8], at: usize, word: &[u8], numbers: &[u64]) -> usize
+    requires { ⌜ at + length (now word) + 21 * length (now numbers) + 1 ≤ length (now b) ⌝ }
+    ensures { λ r. ⌜ Put (lineText (now (word .entry)) (now (numbers .entry))) (now (b .entry)) at (now (b .exit)) r ⌝ }
+{
+    let behind = put_word(b, at, word);
+    let end = put_numbers(b, behind, numbers);
+    b[end] = 10;
+    end + 1
+}
+
+// The number in the byte at a place of a record, and in the two and four bytes from a place on.
+fn one_byte(bytes: &[u8], at: usize) -> u64
+    requires { ⌜ at + 1 ≤ length (now bytes) ⌝ }
+    ensures { λ r. ⌜ r ≡ numberAt (now (bytes .entry)) at 1 ⌝ }
+{
+    field::read8(bytes, at) as u64
+}
+
+fn two_bytes(bytes: &[u8], at: usize) -> u64
+    requires { ⌜ at + 2 ≤ length (now bytes) ⌝ }
+    ensures { λ r. ⌜ r ≡ numberAt (now (bytes .entry)) at 2 ⌝ }
+{
+    field::read16(bytes, at) as u64
+}
+
+fn four_bytes(bytes: &[u8], at: usize) -> u64
+    requires { ⌜ at + 4 ≤ length (now bytes) ⌝ }
+    ensures { λ r. ⌜ r ≡ numberAt (now (bytes .entry)) at 4 ⌝ }
+{
+    field::read32(bytes, at) as u64
+}
+
+// "`class` number, doses, W, P"
+fn put_class(b: &mut [u8], at: usize, bytes: &[u8]) -> usize
+    requires { ⌜ (length (now bytes) ≡ 32) × (at + 160 ≤ length (now b)) ⌝ }
+    ensures { λ r. ⌜ Put (classText (classOf (now (bytes .entry)))) (now (b .entry)) at (now (b .exit)) r ⌝ }
+{
+    let numbers = [
+        one_byte(bytes, 1),
+        two_bytes(bytes, 2),
+        four_bytes(bytes, 4),
+        four_bytes(bytes, 8),
+    ];
+    put_line(b, at, b"class", &numbers)
+}
+
+// "`slot` fan, dose, start tick, part, end tick, part, class"
+fn put_slot(b: &mut [u8], at: usize, bytes: &[u8]) -> usize
+    requires { ⌜ (length (now bytes) ≡ 32) × (at + 160 ≤ length (now b)) ⌝ }
+    ensures { λ r. ⌜ Put (slotText (slotOf (now (bytes .entry)))) (now (b .entry)) at (now (b .exit)) r ⌝ }
+{
+    let numbers = [
+        one_byte(bytes, 1),
+        two_bytes(bytes, 2),
+        four_bytes(bytes, 4),
+        four_bytes(bytes, 8),
+        four_bytes(bytes, 12),
+        four_bytes(bytes, 16),
+        one_byte(bytes, 28),
+    ];
+    put_line(b, at, b"slot", &numbers)
+}
+
+// The line of a record, by its kind.
+fn put_record(b: &mut [u8], at: usize, bytes: &[u8]) -> usize
+    requires { ⌜ (length (now bytes) ≡ 32) × (at + 160 ≤ length (now b)) ⌝ }
+    ensures { λ r. ⌜ Put (recordText (now (bytes .entry))) (now (b .entry)) at (now (b .exit)) r ⌝ }
+{
+    if bytes[0] == 0x43 {
+        return put_class(b, at, bytes);
+    }
+    put_slot(b, at, bytes)
+}
+
+// The line of record i of a plan.
+fn put_record_at(b: &mut [u8], at: usize, plan: &[u8], i: usize) -> usize
+    requires { ⌜ (32 * i + 32 ≤ length (now plan)) × (at + 160 ≤ length (now b)) ⌝ }
+    ensures { λ r. ⌜ Put (recordText (recordAt (now (plan .entry)) i)) (now (b .entry)) at (now (b .exit)) r ⌝ }
+{
+    let from = 32 * i;
+    let end = from + 32;
+    put_record(b, at, &plan[from..end])
+}
+
+// The lines of the first n records of a plan.
+fn put_records(b: &mut [u8], plan: &[u8], n: usize) -> usize
+    requires { ⌜ (32 * n ≤ length (now plan)) × (160 * n ≤ length (now b)) ⌝ }
+    ensures { λ r. ⌜ Put (recordsText (now (plan .entry)) n) (now (b .entry)) 0 (now (b .exit)) r ⌝ }
+{
+    let mut at = 0;
+    let mut i = 0;
+    while i < n {
+        at = put_record_at(b, at, plan, i);
+        i += 1;
+    }
+    at
+}
+
+// "`total` classes, slots"
+fn put_total(b: &mut [u8], at: usize, classes: usize, slots: usize) -> usize
+    requires { ⌜ at + 160 ≤ length (now b) ⌝ }
+    ensures { λ r. ⌜ Put (totalText classes slots) (now (b .entry)) at (now (b .exit)) r ⌝ }
+{
+    let numbers = [classes as u64, slots as u64];
+    put_line(b, at, b"total", &numbers)
+}
+
+// The text of a plan, from the buffer's first byte on: a line for each class and slot, and the total. Gives back its length.
+pub fn print_plan(plan: &[u8], classes: usize, slots: usize, out: &mut [u8]) -> usize
+    requires { ⌜ (32 * (classes + slots) ≤ length (now plan)) × (160 * (classes + slots + 1) ≤ length (now out)) ⌝ }
+    ensures { λ r. ⌜ Put (planText (now (plan .entry)) classes slots) (now (out .entry)) 0 (now (out .exit)) r ⌝ }
+{
+    let at = put_records(out, plan, classes + slots);
+    put_total(out, at, classes, slots)
+}
+
+// The text of a refusal: "`refused` number place, and for 9 also the set, W, P". Gives back its length.
+pub fn print_refusal(
+    number: u64,
+    place: u64,
+    set: u64,
+    grams: u64,
+    time: u64,
+    out: &mut [u8],
+) -> usize
+    requires { ⌜ 160 ≤ length (now out) ⌝ }
+    ensures { λ r. ⌜ Put (refusedText number place set grams time) (now (out .entry)) 0 (now (out .exit)) r ⌝ }
+{
+    if number == 9 {
+        let five = [number, place, set, grams, time];
+        return put_line(out, 0, b"refused", &five);
+    }
+    let two = [number, place];
+    put_line(out, 0, b"refused", &two)
+}
