@@ -37,6 +37,7 @@ pub mod Standing
 pub mod Refusing
 pub mod SplitSlot
 pub mod Planning
+pub mod Answers
 pub mod Bays
 pub mod Demand2
 pub mod Demand3

@@ -1,4 +1,5 @@
 pub mod Cases
+pub mod Columns
 pub mod Laws
 pub mod Takes
 pub mod Walks

@@ -21,29 +21,9 @@ use Rattle.order.specs.declared.Walked.{Walked}
 use Rattle.order.specs.declared.Reading as code
 use Rattle.order.specs.Held.{asDose, heldFans, heldDose, doseHeld, dosesFrom, dosesHeld, asOrder, column, heldOrder, noOrder, heldReading, asReading, ReadFrom}
 use Rattle.order.specs.Sheets.{noSheet, withDose, withFans, withDoseAt, marked, adding, walkedFrom, settled, refusedReading}
+use Rattle.order.proofs.Columns.{column-set, column-at, run-all}
 use Rattle.order.proofs.Cases.{picked, at-off, at-on}
 use Rattle.order.proofs.Walks.{Each, reads, refuses, Any, each-read}
-
--- ---- a column of an array
-
-pub column-more : {A : Type 0} (f : A → ℕ) (n : ℕ) (l : List A) (a : A) → length l < n → set (column f n l) (length l) (f a) ≡ column f n (l ++ a ∷ [])
-unfolding column
-column-more f zero l a h = absurd (let z : ⊥ = omega arith in z)
-column-more f (suc n) [] a h = refl
-column-more f (suc n) (b ∷ l) a h = ap (λ (t : List ℕ). f b ∷ t) (column-more f n l a (omega arith))
-
-column-set : {A : Type 0} {a : List ℕ} {n : ℕ} (f : A → ℕ) (l : List A) (d : A) → a ≡ column f 24 l → n ≡ length l → length l < 24
-    → set a n (f d) ≡ column f 24 (l ++ d ∷ [])
-column-set f l d p q h = rw (p, q) (column-more f 24 l d h)
-
-pub column-at : {A : Type 0} (f : A → ℕ) (z : A) → f z ≡ 0 → (n : ℕ) (l : List A) (k : ℕ) → length l ≤ n → getD (column f n l) k 0 ≡ f (getD l k z)
-unfolding column
-column-at f z e zero [] k h = sym e
-column-at f z e zero (a ∷ l) k h = absurd (let z : ⊥ = omega arith in z)
-column-at f z e (suc n) [] zero h = sym e
-column-at f z e (suc n) [] (suc k) h = column-at f z e n [] k (omega arith)
-column-at f z e (suc n) (a ∷ l) zero h = refl
-column-at f z e (suc n) (a ∷ l) (suc k) h = column-at f z e n l k (omega arith)
 
 -- ---- the doses that an order holds
 
@@ -72,16 +52,9 @@ dose-at o ds k h l =
       held-at : {a : List ℕ} (f : orders.Dose → ℕ) → f noDose ≡ 0 → a ≡ column f 24 ds → getD a k 0 ≡ f (getD ds k noDose)
       held-at f z e = ap (λ (a : List ℕ). getD a k 0) e ∙ column-at f noDose z 24 ds k l
 
-doses-from : (o : Order) (ds : List orders.Dose) (k n : ℕ) → Holds o ds → length ds ≤ 24 → k + n ≡ length ds → dosesFrom o k n ≡ drop k ds
-unfolding dosesFrom
-doses-from o ds k zero h l e = let q : length ds ≤ k = omega arith in sym (drop-of-length-le ds q)
-doses-from o ds k (suc n) h l e =
-    ap (λ (d : orders.Dose). d ∷ dosesFrom o (suc k) n) (dose-at o ds k h l)
-    ∙ ap (λ (t : List orders.Dose). getD ds k noDose ∷ t) (doses-from o ds (suc k) n h l (omega arith))
-    ∙ sym (drop-cons ds k noDose (omega arith))
-
 pub doses-held : (o : Order) (ds : List orders.Dose) → Holds o ds → length ds ≤ 24 → dosesHeld o ≡ ds
-doses-held o ds h l = ap (dosesFrom o 0) (h .count) ∙ doses-from o ds 0 (length ds) h l (zero-add _)
+unfolding dosesFrom
+doses-held o ds h l = ap (dosesFrom o 0) (h .count) ∙ run-all (doseHeld o) ds noDose (λ k. dose-at o ds k h l)
 
 holds-more : (o : Order) (ds : List orders.Dose) (d : orders.Dose) → Holds o ds → length ds < 24 → Holds (withDose o (heldDose d)) (ds ++ d ∷ [])
 unfolding withDose

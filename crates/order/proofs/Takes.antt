@@ -1,11 +1,16 @@
 -- A record's answer taken apart by `let .. else`. Assumes nothing.
 use Prim.Native.Nat.{ℕ}
 use mathlib.Core.Path.{_≡_, refl, sym, ap, _∙_}
+use mathlib.Core.Bool.{Bool, true, false}
 use mathlib.Core.Logic.{_⊎_, inl, inr}
 use mathlib.Core.List.{[], _∷_}
 use native.Mathlib.Omega.{arith}
 use denote.Enum.Declared.{tagOf}
 use types.Run.{OneOf}
+use Rattle.model.specs.Records.{read}
+use Rattle.model.specs.Orders.{checked}
+use Rattle.model.specs.Orders as orders
+use Rattle.order.specs.Held.{heldEntry}
 use Rattle.order.specs.declared.Entry.{Entry}
 use Rattle.order.specs.declared.Entry.the-variants as is
 use Rattle.order.specs.declared.Fans.{Fans}
@@ -13,8 +18,28 @@ use Rattle.order.specs.declared.Dose.{Dose}
 use Rattle.order.specs.declared.Refusal.{Refusal}
 use Rattle.order.specs.declared.Sheet.{Sheet}
 use Rattle.order.specs.declared.Walked.{Walked}
-use Rattle.order.specs.Sheets.{went, noSheet, withFans, withDoseAt, taken, takenOther, takenRefused}
+use Rattle.order.specs.Sheets.{faultOf, went, noSheet, withFans, withDoseAt, taken, takenOther, takenRefused}
 use Rattle.order.proofs.Entry.{the-type}
+
+-- ---- a record of known kind: its fault, or its fields
+
+pub fault-of : {n : ℕ} {p q b f : Bool} → n ≡ faultOf p q → p ≡ b → q ≡ f → n ≡ faultOf b f
+fault-of {n} {p} {q} {b} {f} h e g = h ∙ rw (e, g)
+
+pub faulty : {n : ℕ} (b f : Bool) (e : orders.Entry) (k : ℕ) → n ≡ faultOf b f → (n ≡ 0 → ⊥)
+    → is.Refused (record { number = n; place = k }) ≡ heldEntry (checked b f e k)
+unfolding faultOf heldEntry
+faulty true true e k h z = absurd (z h)
+faulty true false e k h z = rw h
+faulty false f e k h z = rw h
+
+pub faultless : {n : ℕ} (b f : Bool) (e : orders.Entry) (k : ℕ) → n ≡ faultOf b f → n ≡ 0 → heldEntry (read e) ≡ heldEntry (checked b f e k)
+unfolding faultOf
+faultless true true e k h z = refl
+faultless true false e k h z = absurd (let y : ⊥ = omega arith in y)
+faultless false f e k h z = absurd (let y : ⊥ = omega arith in y)
+
+-- ---- taken apart
 
 pub no-refusal : {n : Sheet} (e : Entry) → n ≡ noSheet → OneOf (0 ∷ 1 ∷ []) (tagOf the-type e) → went n ≡ takenRefused e
 unfolding takenRefused

@@ -44,10 +44,14 @@ abbrev pub doseHeld : Order → ℕ → orders.Dose
 doseHeld o k =
     record { bay = getD (o .bay) k 0; release = getD (o .release) k 0; deadline = getD (o .deadline) k 0; grams = getD (o .grams) k 0 }
 
+-- f k, f (k + 1), .. : n of them
+unfoldable pub run : {A : Type 0} → (ℕ → A) → ℕ → ℕ → List A
+run f k zero = []
+run f k (suc n) = f k ∷ run f (suc k) n
+
 -- n doses from dose k on
 unfoldable pub dosesFrom : Order → ℕ → ℕ → List orders.Dose
-dosesFrom o k zero = []
-dosesFrom o k (suc n) = doseHeld o k ∷ dosesFrom o (suc k) n
+dosesFrom o k n = run (doseHeld o) k n
 
 -- "Dose number = count of D records before it": as many doses as the count says
 abbrev pub dosesHeld : Order → List orders.Dose

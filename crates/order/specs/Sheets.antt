@@ -1,4 +1,5 @@
 -- What the reader's steps come to, record by record. Only the contracts of private functions cite this page.
+use mathlib.Core.Bool.{Bool}
 use mathlib.Core.List.{List, [], _∷_}
 use Prim.Native.Nat.{ℕ, suc, _+_, _-_}
 use lib.Dec.{eqb, leb}
@@ -19,6 +20,9 @@ use Rattle.order.specs.declared.Sheet.{Sheet}
 use Rattle.order.specs.declared.Walked.{Walked}
 
 -- ---- a record of known kind
+
+unfoldable pub faultOf : Bool → Bool → ℕ
+faultOf blank fits = pick blank (pick fits 0 5) 4
 
 abbrev pub fansEntered : List ℕ → ℕ → Entry
 fansEntered r k = heldEntry (checked (blankAt fansParts r 0) (fansFit (fansOf r)) (fansEntry (fansOf r)) k)

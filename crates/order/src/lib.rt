@@ -1,11 +1,14 @@
 // Orders read from bytes (document 01, "Records" and refusals 2 to 8).
+mod record; // record.rt: one record
+
+use record::record_at;
 ghost use mathlib.Core.Path.{_≡_};
-ghost use Prim.Native.Nat.{ℕ, _+_, _%_, _<_, _≤_};
+ghost use Prim.Native.Nat.{_<_, _≤_};
 ghost use lib.ListN.{length};
-ghost use Rattle.model.specs.Records.{within, blankAt, fansParts, doseParts, readAll};
-ghost use Rattle.model.specs.Orders.{fansFit, doseFits, fansOf, doseOf, entryOf, readOrder, clash, clashesAny};
-ghost use Rattle.order.specs.Held.{asFans, asDose, heldFans, heldDose, heldEntry, dosesHeld, noOrder, ReadFrom};
-ghost use Rattle.order.specs.Sheets.{fansEntered, doseEntered, noSheet, withDose, marked, withFans, withDoseAt};
+ghost use Rattle.model.specs.Records.{readAll};
+ghost use Rattle.model.specs.Orders.{entryOf, clash, clashesAny};
+ghost use Rattle.order.specs.Held.{asDose, heldEntry, dosesHeld, noOrder, ReadFrom};
+ghost use Rattle.order.specs.Sheets.{noSheet, withDose, marked, withFans, withDoseAt};
 ghost use Rattle.order.specs.Sheets.{taken, takenOther, takenRefused, settled, walkedFrom, refusedReading};
 
 // "number of fans, 1 to 8; top grams, top seconds, each 1 to 1,000,000"
@@ -68,143 +71,6 @@ struct Walked {
     number: u32,
     place: usize,
     sheet: Sheet,
-}
-
-fn inside(lo: u32, hi: u32, v: u32) -> bool
-    ensures { λ r. ⌜ r ≡ within lo hi v ⌝ }
-{
-    lo <= v && v <= hi
-}
-
-fn fans_fit(f: Fans) -> bool
-    ensures { λ r. ⌜ r ≡ fansFit (asFans f) ⌝ }
-{
-    if !inside(1, 8, f.fans) {
-        return false;
-    }
-    if !inside(1, 1000000, f.top_grams) {
-        return false;
-    }
-    inside(1, 1000000, f.top_seconds)
-}
-
-// The release is checked before it is raised by one, so that no sum wraps.
-fn dose_fits(d: Dose) -> bool
-    ensures { λ r. ⌜ r ≡ doseFits (asDose d) ⌝ }
-{
-    if !inside(1, 999, d.bay) {
-        return false;
-    }
-    if 604799 < d.release {
-        return false;
-    }
-    if !inside(d.release + 1, 604800, d.deadline) {
-        return false;
-    }
-    inside(1, 1000000, d.grams)
-}
-
-fn fans_blank(r: &[u8]) -> bool
-    requires { ⌜ length (now r) ≡ 32 ⌝ }
-    ensures { λ t. ⌜ t ≡ blankAt fansParts (now (r .entry)) 0 ⌝ }
-{
-    if !field::blank(r, 2, 2) {
-        return false;
-    }
-    field::blank(r, 12, 20)
-}
-
-fn dose_blank(r: &[u8]) -> bool
-    requires { ⌜ length (now r) ≡ 32 ⌝ }
-    ensures { λ t. ⌜ t ≡ blankAt doseParts (now (r .entry)) 0 ⌝ }
-{
-    if !field::blank(r, 1, 1) {
-        return false;
-    }
-    field::blank(r, 16, 16)
-}
-
-fn fans_in(r: &[u8]) -> Fans
-    requires { ⌜ length (now r) ≡ 32 ⌝ }
-    ensures { λ f. ⌜ f ≡ heldFans (fansOf (now (r .entry))) ⌝ }
-{
-    Fans {
-        fans: field::read8(r, 1),
-        top_grams: field::read32(r, 4),
-        top_seconds: field::read32(r, 8),
-    }
-}
-
-fn dose_in(r: &[u8]) -> Dose
-    requires { ⌜ length (now r) ≡ 32 ⌝ }
-    ensures { λ d. ⌜ d ≡ heldDose (doseOf (now (r .entry))) ⌝ }
-{
-    Dose {
-        bay: field::read16(r, 2),
-        release: field::read32(r, 4),
-        deadline: field::read32(r, 8),
-        grams: field::read32(r, 12),
-    }
-}
-
-// An F record: 4 before 5.
-fn fans_entry(r: &[u8], k: usize) -> Entry
-    requires { ⌜ length (now r) ≡ 32 ⌝ }
-    ensures { λ e. ⌜ e ≡ fansEntered (now (r .entry)) k ⌝ }
-{
-    if !fans_blank(r) {
-        return Entry::Refused(Refusal {
-            number: 4,
-            place: k,
-        });
-    }
-    let f = fans_in(r);
-    if !fans_fit(f) {
-        return Entry::Refused(Refusal {
-            number: 5,
-            place: k,
-        });
-    }
-    Entry::Fans(f)
-}
-
-// A D record: 4 before 5.
-fn dose_entry(r: &[u8], k: usize) -> Entry
-    requires { ⌜ length (now r) ≡ 32 ⌝ }
-    ensures { λ e. ⌜ e ≡ doseEntered (now (r .entry)) k ⌝ }
-{
-    if !dose_blank(r) {
-        return Entry::Refused(Refusal {
-            number: 4,
-            place: k,
-        });
-    }
-    let d = dose_in(r);
-    if !dose_fits(d) {
-        return Entry::Refused(Refusal {
-            number: 5,
-            place: k,
-        });
-    }
-    Entry::Dose(d)
-}
-
-// Record k from its 32 bytes: "record by record 3, 4, 5 in that order".
-fn record_at(r: &[u8], k: usize) -> Entry
-    requires { ⌜ length (now r) ≡ 32 ⌝ }
-    ensures { λ e. ⌜ e ≡ heldEntry (entryOf (now (r .entry)) k) ⌝ }
-{
-    let kind = r[0];
-    if kind == 0x46 {
-        return fans_entry(r, k);
-    }
-    if kind == 0x44 {
-        return dose_entry(r, k);
-    }
-    Entry::Refused(Refusal {
-        number: 3,
-        place: k,
-    })
 }
 
 // "two doses of one bay with overlapping windows (touching is allowed)"

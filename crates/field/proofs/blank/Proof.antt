@@ -7,8 +7,6 @@ use Rattle.model.specs.Records.{numberAt}
 use Rattle.field.proofs.Laws.{blank-none, blank-on, blank-stop}
 use Rattle.field.proofs.blank.Statement.{statement}
 use Rattle.field.proofs.blank.Tie as tie
-use Rattle.field.proofs.blank.Reads as reads
-use Rattle.field.proofs.blank.Lts as lts
 
 abbrev Inv-loop : tie.InvT-loop
 Inv-loop s from count end i₀ i = (from ≤ i) × (i ≤ from + count) × (eqb (numberAt s i (from + count - i)) 0 ≡ eqb (numberAt s from count) 0)

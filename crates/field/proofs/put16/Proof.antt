@@ -6,8 +6,6 @@ use Rattle.field.specs.Written.{written}
 use borrow.Author.Needs.{needs}
 use Rattle.field.proofs.put16.Statement.{statement}
 use Rattle.field.proofs.put16.Tie as tie
-use Rattle.field.proofs.put16.Reads as reads
-use Rattle.field.proofs.put16.Lts as lts
 
 cast-b : tie.Need-cast-b
 cast-b c = search needs

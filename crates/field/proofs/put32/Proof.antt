@@ -7,8 +7,6 @@ use Rattle.field.proofs.Laws.{two, three}
 use borrow.Author.Needs.{needs}
 use Rattle.field.proofs.put32.Statement.{statement}
 use Rattle.field.proofs.put32.Tie as tie
-use Rattle.field.proofs.put32.Reads as reads
-use Rattle.field.proofs.put32.Lts as lts
 
 cast-b : tie.Need-cast-b
 cast-b c = search needs

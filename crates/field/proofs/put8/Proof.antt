@@ -4,8 +4,6 @@ use mathlib.Core.Path.{refl}
 use borrow.Author.Needs.{needs}
 use Rattle.field.proofs.put8.Statement.{statement}
 use Rattle.field.proofs.put8.Tie as tie
-use Rattle.field.proofs.put8.Reads as reads
-use Rattle.field.proofs.put8.Lts as lts
 
 cast-b : tie.Need-cast-b
 cast-b c = search needs

@@ -7,8 +7,6 @@ use Rattle.field.specs.Written.{written}
 use Rattle.field.proofs.Laws.{written-none, one-more}
 use Rattle.field.proofs.put_blank.Statement.{statement}
 use Rattle.field.proofs.put_blank.Tie as tie
-use Rattle.field.proofs.put_blank.Reads as reads
-use Rattle.field.proofs.put_blank.Lts as lts
 
 abbrev Inv-loop : tie.InvT-loop
 Inv-loop b₀ at count i₀ b i = (i ≤ count) × (b ≡ written b₀ at (replicate i 0)) × (length b ≡ length b₀)

@@ -3,9 +3,6 @@ use Rattle.field.proofs.Laws.{number1}
 use borrow.Author.Needs.{needs}
 use Rattle.field.proofs.read8.Statement.{statement}
 use Rattle.field.proofs.read8.Tie as tie
-use Rattle.field.proofs.read8.Reads as reads
-use Rattle.field.proofs.read8.Lts as lts
-use Rattle.field.proofs.wide.Reads as wide-reads
 
 shared-slice-read-wide : tie.Need-shared-slice-read-wide
 shared-slice-read-wide c = search needs

@@ -2,10 +2,6 @@ use Rattle.order.specs.Sheets.{withDoseAt}
 use borrow.Author.Needs.{needs}
 use Rattle.order.proofs.add_dose.Statement.{statement}
 use Rattle.order.proofs.add_dose.Tie as tie
-use Rattle.order.proofs.add_dose.Reads as reads
-use Rattle.order.proofs.add_dose.Lts as lts
-use Rattle.order.proofs.mark_of.Reads as mark-of-reads
-use Rattle.order.proofs.with_dose.Reads as with-dose-reads
 
 mark-of-requires : tie.Need-mark-of-requires
 mark-of-requires c κs = search needs

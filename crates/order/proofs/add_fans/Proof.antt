@@ -3,8 +3,6 @@ use Rattle.order.specs.Sheets.{withFans}
 use borrow.Author.Needs.{needs}
 use Rattle.order.proofs.add_fans.Statement.{statement}
 use Rattle.order.proofs.add_fans.Tie as tie
-use Rattle.order.proofs.add_fans.Reads as reads
-use Rattle.order.proofs.add_fans.Lts as lts
 
 add-t4 : tie.Need-add-t4
 add-t4 c = search needs

@@ -3,10 +3,6 @@ use Rattle.order.specs.Sheets.{takenOther}
 use borrow.Author.Needs.{needs}
 use Rattle.order.proofs.add_other.Statement.{statement}
 use Rattle.order.proofs.add_other.Tie as tie
-use Rattle.order.proofs.add_other.Reads as reads
-use Rattle.order.proofs.add_other.Lts as lts
-use Rattle.order.proofs.add_fans.Reads as add-fans-reads
-use Rattle.order.proofs.refused_walk.Reads as refused-walk-reads
 
 enum-known-e : tie.Need-enum-known-e
 enum-known-e c = search needs

@@ -4,11 +4,6 @@ use Rattle.order.proofs.Takes.{no-dose, some-dose}
 use borrow.Author.Needs.{needs}
 use Rattle.order.proofs.add_record.Statement.{statement}
 use Rattle.order.proofs.add_record.Tie as tie
-use Rattle.order.proofs.add_record.Reads as reads
-use Rattle.order.proofs.add_record.Lts as lts
-use Rattle.order.proofs.add_dose.Reads as add-dose-reads
-use Rattle.order.proofs.add_other.Reads as add-other-reads
-use Rattle.order.proofs.record_at.Reads as record-at-reads
 
 record-at-requires : tie.Need-record-at-requires
 record-at-requires c κs = search needs

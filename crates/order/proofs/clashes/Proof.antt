@@ -8,9 +8,6 @@ use Rattle.order.specs.Held.{asDose, dosesFrom, dosesHeld}
 use Rattle.order.proofs.Laws.{clash-none, clash-stop, clash-on}
 use Rattle.order.proofs.clashes.Statement.{statement}
 use Rattle.order.proofs.clashes.Tie as tie
-use Rattle.order.proofs.clashes.Reads as reads
-use Rattle.order.proofs.clashes.Lts as lts
-use Rattle.order.proofs.dose_clash.Reads as dose-clash-reads
 
 abbrev Inv-loop : tie.InvT-loop
 Inv-loop d o n j₀ j = (n ≡ o .count) × (j ≤ n) × (clashesAny (asDose d) (dosesFrom o j (n - j)) ≡ clashesAny (asDose d) (dosesHeld o))

@@ -4,8 +4,6 @@ use borrow.Author.Tests.{eq-eqb, ne-eqb, le-leb, lt-leb}
 use Rattle.order.proofs.Cases.{and-off, and-on, ltb-not}
 use Rattle.order.proofs.dose_clash.Statement.{statement}
 use Rattle.order.proofs.dose_clash.Tie as tie
-use Rattle.order.proofs.dose_clash.Reads as reads
-use Rattle.order.proofs.dose_clash.Lts as lts
 
 returns : tie.Need-returns
 returns c = and-off _ (sym (ne-eqb _ _ (c .if1 .taken)))

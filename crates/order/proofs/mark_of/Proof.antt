@@ -6,9 +6,6 @@ use Rattle.order.proofs.Cases.{at-off, at-on}
 use borrow.Author.Needs.{needs}
 use Rattle.order.proofs.mark_of.Statement.{statement}
 use Rattle.order.proofs.mark_of.Tie as tie
-use Rattle.order.proofs.mark_of.Reads as reads
-use Rattle.order.proofs.mark_of.Lts as lts
-use Rattle.order.proofs.clashes.Reads as clashes-reads
 
 returns : tie.Need-returns
 unfolding marked

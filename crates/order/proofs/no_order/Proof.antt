@@ -2,8 +2,6 @@ use mathlib.Core.Path.{refl}
 use Rattle.order.specs.Held.{heldOrder, column}
 use Rattle.order.proofs.no_order.Statement.{statement}
 use Rattle.order.proofs.no_order.Tie as tie
-use Rattle.order.proofs.no_order.Reads as reads
-use Rattle.order.proofs.no_order.Lts as lts
 
 returns : tie.Need-returns
 unfolding heldOrder column

@@ -2,9 +2,6 @@ use Rattle.order.specs.Sheets.{noSheet}
 use borrow.Author.Needs.{needs}
 use Rattle.order.proofs.no_sheet.Statement.{statement}
 use Rattle.order.proofs.no_sheet.Tie as tie
-use Rattle.order.proofs.no_sheet.Reads as reads
-use Rattle.order.proofs.no_sheet.Lts as lts
-use Rattle.order.proofs.no_order.Reads as no-order-reads
 
 no-order-requires : tie.Need-no-order-requires
 no-order-requires c κs = search needs

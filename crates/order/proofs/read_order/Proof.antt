@@ -8,11 +8,6 @@ use Rattle.order.proofs.Settles.{answers, walk-refused, walk-settled}
 use borrow.Author.Needs.{needs}
 use Rattle.order.proofs.read_order.Statement.{statement}
 use Rattle.order.proofs.read_order.Tie as tie
-use Rattle.order.proofs.read_order.Reads as reads
-use Rattle.order.proofs.read_order.Lts as lts
-use Rattle.order.proofs.refuse.Reads as refuse-reads
-use Rattle.order.proofs.settle.Reads as settle-reads
-use Rattle.order.proofs.walk.Reads as walk-reads
 
 refuse-requires : tie.Need-refuse-requires
 refuse-requires c κs = search needs

@@ -1,9 +1,6 @@
 use borrow.Author.Needs.{needs}
 use Rattle.order.proofs.refuse.Statement.{statement}
 use Rattle.order.proofs.refuse.Tie as tie
-use Rattle.order.proofs.refuse.Reads as reads
-use Rattle.order.proofs.refuse.Lts as lts
-use Rattle.order.proofs.no_order.Reads as no-order-reads
 
 no-order-requires : tie.Need-no-order-requires
 no-order-requires c κs = search needs

@@ -3,9 +3,6 @@ use Rattle.order.specs.Sheets.{takenRefused}
 use borrow.Author.Needs.{needs}
 use Rattle.order.proofs.refused_walk.Statement.{statement}
 use Rattle.order.proofs.refused_walk.Tie as tie
-use Rattle.order.proofs.refused_walk.Reads as reads
-use Rattle.order.proofs.refused_walk.Lts as lts
-use Rattle.order.proofs.no_sheet.Reads as no-sheet-reads
 
 no-sheet-requires : tie.Need-no-sheet-requires
 no-sheet-requires c κs = search needs

@@ -6,9 +6,6 @@ use Rattle.order.proofs.Cases.{at-off, at-on}
 use borrow.Author.Needs.{needs}
 use Rattle.order.proofs.settle.Statement.{statement}
 use Rattle.order.proofs.settle.Tie as tie
-use Rattle.order.proofs.settle.Reads as reads
-use Rattle.order.proofs.settle.Lts as lts
-use Rattle.order.proofs.refuse.Reads as refuse-reads
 
 refuse-requires : tie.Need-refuse-requires
 refuse-requires c κs = search needs

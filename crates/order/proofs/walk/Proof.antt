@@ -14,10 +14,6 @@ use Rattle.order.specs.Sheets.{taken, noSheet, walkedFrom}
 use Rattle.order.proofs.Walks.{record-length, counts, stops, goes, ends, empty}
 use Rattle.order.proofs.walk.Statement.{statement}
 use Rattle.order.proofs.walk.Tie as tie
-use Rattle.order.proofs.walk.Reads as reads
-use Rattle.order.proofs.walk.Lts as lts
-use Rattle.order.proofs.add_record.Reads as add-record-reads
-use Rattle.order.proofs.no_sheet.Reads as no-sheet-reads
 
 abbrev Inv-loop : tie.InvT-loop
 Inv-loop bytes n s₀ k₀ s k = (k ≤ n) × (n ≡ length bytes / 32) × (s .heads ≤ k) × (s .doses ≤ k) × (s .order .count ≤ 24) × (walkedFrom (readFrom entryOf bytes k (n - k)) k s ≡ walkedFrom (readFrom entryOf bytes 0 n) 0 noSheet)

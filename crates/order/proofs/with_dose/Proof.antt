@@ -3,8 +3,6 @@ use Rattle.order.specs.Sheets.{withDose}
 use borrow.Author.Needs.{needs}
 use Rattle.order.proofs.with_dose.Statement.{statement}
 use Rattle.order.proofs.with_dose.Tie as tie
-use Rattle.order.proofs.with_dose.Reads as reads
-use Rattle.order.proofs.with_dose.Lts as lts
 
 returns : tie.Need-returns
 unfolding withDose

@@ -1,0 +1,285 @@
+-- One phase: the tally so far with the next class is the tally so far. Assumes nothing.
+use mathlib.Core.Bool.{Bool, true, false, not, _&&_}
+use mathlib.Core.List.{List}
+use mathlib.Core.Logic.{inl, inr}
+use mathlib.Core.Path.{_≡_, refl, sym, ap, ap₂, _∙_, subst}
+use Prim.Native.Nat.{ℕ, zero, suc, _+_, _-_, _*_, _<_, _≤_}
+use native.Mathlib.Numerals.{add-one}
+use native.Mathlib.Omega.{arith}
+use borrow.Author.Tests.{eq-eqb}
+use lib.Arith.{digits-div}
+use lib.Dec.{T, T-not, eqb, eqb→eq}
+use lib.ListN.{length, getD, replicate}
+use Rattle.model.specs.Sets.{sum, on, Doses, Nonempty}
+use Rattle.model.specs.Classes.{Setting, Row, W, P, NextClass, Classes, classP, reserved, remaining, free, openFans}
+use Rattle.model.specs.Shares.{Valid}
+use Rattle.model.proofs.Sums.{last, sum-congr}
+use Rattle.model.proofs.Sets.{Alike, _∩_, and-left, and-right, and-both, same-test, on-yes, size, size-all, le-weight, weight-pos, weight-part, weight-alike}
+use Rattle.model.proofs.Sequence.{Found, found-none, found-more, found-all, remaining-alike, free-alike}
+use Rattle.share.specs.Share.{cell}
+use Rattle.classes.specs.declared.Tally.{Tally}
+use Rattle.classes.specs.Sheet.{setOf, activeOf, rowOf, settingFrom, choose}
+use Rattle.classes.specs.Round.{Measured, Chosen}
+use Rattle.classes.specs.Phase.{rowAt, classesIn, sharesIn, Reserved, After, KeptShares, SoFar}
+use Rattle.classes.proofs.Same.{fans-same, time-same, valid-same, next-same}
+
+-- a set with a member has a size
+pub some-size : (n : ℕ) (A : Doses) → Nonempty n A → 1 ≤ size n A
+some-size n A r = le-weight n (λ k. 1) A (r .0) (r .1) (r .2)
+
+-- what remains is in no class so far
+remaining-not : (C : ℕ → Doses) (i l k : ℕ) → l < i → T (remaining C i k) → T (C l k) → ⊥
+unfolding remaining
+remaining-not C zero l k h t u = omega arith
+remaining-not C (suc i) l k h t u = elim (last h) [
+  | inl e ↦ T-not (C i k) (and-right (remaining C i k) (not (C i k)) t) (rw e at u)
+  | inr m ↦ remaining-not C i l k m (and-left (remaining C i k) (not (C i k)) t) u
+]
+
+all-true : (n k : ℕ) → k < n → getD (replicate n true) k false ≡ true
+all-true zero k h = absurd (omega arith)
+all-true (suc n) zero h = refl
+all-true (suc n) (suc k) h = all-true n k (omega arith)
+
+all-none : (n k : ℕ) → k < n → _≡_ {A = ℕ} (getD (replicate n 24) k 0) 24
+all-none zero k h = absurd (omega arith)
+all-none (suc n) zero h = refl
+all-none (suc n) (suc k) h = all-none n k (omega arith)
+
+all-remain : (C : ℕ → Doses) (k : ℕ) → remaining C 0 k ≡ true
+unfolding remaining
+all-remain C k = refl
+
+on-no : (b : Bool) (v : ℕ) → (T b → ⊥) → on b v ≡ 0
+on-no true v h = absurd (h tt)
+on-no false v h = refl
+
+-- the first classes leave the fans less what they reserve
+free-sum : (S : Setting) (F : Row) (C : ℕ → Doses) (i j : ℕ) → free S F C i j ≡ F j - sum i (λ l. reserved S F C l j)
+unfolding free sum
+free-sum S F C zero j = omega arith
+free-sum S F C (suc i) j = omega (arith, free-sum S F C i j)
+
+module _ (n J : ℕ) (active : List Bool) (lens grams : List ℕ) (F : Row) (few : n ≤ 24) (few′ : J ≤ 47) where
+  abbrev S : Setting
+  S = settingFrom n J active lens grams
+
+  -- the laws of `Same`, for one setting and other fans
+  module _ (row row′ : Row) (er : (j : ℕ) → j < J → row j ≡ row′ j) where
+    next-as : (rest rest′ A A′ : Doses) → Alike n rest rest′ → Alike n A A′ → NextClass S row rest A → NextClass S row′ rest′ A′
+    next-as = next-same n J _ _ _ _ _ _ (λ k j q m. refl) (λ j q. refl) (λ k q. refl) row row′ er
+
+    module _ (A A′ : Doses) (eA : Alike n A A′) where
+      time-as : P S row A ≡ P S row′ A′
+      time-as = time-same n J _ _ _ _ _ _ (λ k j q m. refl) (λ j q. refl) (λ k q. refl) row row′ er A A′ eA
+
+      fans-as : (j : ℕ) → j < J → openFans S row A j ≡ openFans S row′ A′ j
+      fans-as = fans-same n J _ _ _ _ _ _ (λ k j q m. refl) (λ j q. refl) (λ k q. refl) row row′ er A A′ eA
+
+      valid-as : (x x′ : ℕ → ℕ → ℕ) → ((k j : ℕ) → k < n → j < J → x k j ≡ x′ k j) → Valid S row A x → Valid S row′ A′ x′
+      valid-as = valid-same n J _ _ _ _ _ _ (λ k j q m. refl) (λ j q. refl) (λ k q. refl) row row′ er A A′ eA
+
+  module _ (t : Tally) (table : List (List ℕ)) (shares : List ℕ) (so : SoFar S F t table shares) (less : t .classed < n) where
+    abbrev i : ℕ
+    i = t .class
+
+    abbrev C : ℕ → Doses
+    C = classesIn t
+
+    -- the next class has a number and a dose
+    pub more-classes : i < 24
+    more-classes = omega (arith, so .each)
+
+    pub some-remain : Nonempty n (setOf (t .remaining))
+    some-remain =
+        let r = weight-pos n (λ k. 1) (remaining C i) (omega (arith, so .counted)) in
+        (r .0, r .1, rw (so .rest (r .0) (r .1)) (r .2))
+
+    module _ (free-row : List ℕ) (hf : (j : ℕ) → j < 47 → getD free-row j 0 ≡ F j - sum i (λ l. rowAt table l j)) where
+      rows-here : (j : ℕ) → j < J → rowOf free-row j ≡ free S F C i j
+      rows-here j q =
+          hf j (omega arith) ∙ ap (λ (s : ℕ). F j - s) (sum-congr i (λ l m. so .rows l j m q)) ∙ sym (free-sum S F C i j)
+
+      module _ (members : List Bool) (x reserved-fans : List ℕ) (w p : ℕ) (measured : Measured S (rowOf free-row) (setOf members) w p reserved-fans)
+          (chosen : Chosen S (rowOf free-row) (setOf (t .remaining)) (setOf members) x) (t′ : Tally) (table′ : List (List ℕ)) (shares′ : List ℕ)
+          (after : After n members w p t t′) (row : Reserved i reserved-fans table table′) (kept : KeptShares members x shares shares′) where
+        abbrev C′ : ℕ → Doses
+        C′ = classesIn t′
+
+        abbrev A : Doses
+        A = setOf members
+
+        -- a member remained
+        remained : (k : ℕ) → k < n → T (A k) → T (remaining C i k)
+        remained k q u = rw (so .rest k q) at (chosen .next .within k q u)
+
+        number : (k : ℕ) → k < n → getD (t′ .numbers) k 0 ≡ choose (A k) i (getD (t .numbers) k 0)
+        number k q = after .numbers k (omega arith)
+
+        of-member : (k l : ℕ) → k < n → T (A k) → C′ l k ≡ eqb i l
+        of-member k l q u = go (A k) u (number k q)
+          where
+            go : (b : Bool) → T b → getD (t′ .numbers) k 0 ≡ choose b i (getD (t .numbers) k 0) → C′ l k ≡ eqb i l
+            go true u e = ap (λ (m : ℕ). eqb m l) e
+
+        of-other : (k l : ℕ) → k < n → (T (A k) → ⊥) → C′ l k ≡ C l k
+        of-other k l q u = go (A k) u (number k q)
+          where
+            go : (b : Bool) → (T b → ⊥) → getD (t′ .numbers) k 0 ≡ choose b i (getD (t .numbers) k 0) → C′ l k ≡ C l k
+            go true u e = absurd (u tt)
+            go false u e = ap (λ (m : ℕ). eqb m l) e
+
+        member-or : {X : Type 0} (k : ℕ) → (T (A k) → X) → ((T (A k) → ⊥) → X) → X
+        member-or {X} k f g = go (A k) refl
+          where
+            go : (b : Bool) → A k ≡ b → X
+            go true e = f (rw e tt)
+            go false e = g (λ u. rw e at u)
+
+        -- the earlier classes are as before
+        alike-below : (l : ℕ) → l < i → Alike n (C l) (C′ l)
+        alike-below l m k q =
+            member-or k
+            (λ u. same-test (C l k) (C′ l k) (λ v. absurd (remaining-not C i l k m (remained k q u) v))
+            (λ v. absurd (omega (arith, eqb→eq i l (rw (of-member k l q u) at v)))))
+            (λ u. sym (of-other k l q u))
+
+        -- and the next is the members
+        alike-here : Alike n A (C′ i)
+        alike-here k q =
+            same-test (A k) (C′ i k) (λ u. rw (of-member k i q u, eq-eqb i i refl) tt)
+            (λ v. member-or k (λ u. u) (λ u. absurd (so .later k i q (omega arith) more-classes (rw (of-other k i q u) at v))))
+
+        free′ : (l : ℕ) → l ≤ i → (j : ℕ) → free S F C l j ≡ free S F C′ l j
+        free′ l m j = free-alike S F C C′ l (λ l′ q. alike-below l′ (omega arith)) j
+
+        rows′ : (j : ℕ) → j < J → rowOf free-row j ≡ free S F C′ i j
+        rows′ j q = rows-here j q ∙ free′ i (omega arith) j
+
+        -- what holds of the next class and of the earlier ones holds of all
+        each-class : (P : ℕ → Type 0) → P i → ((l : ℕ) → l < i → P l) → (l : ℕ) → l < t′ .class → P l
+        each-class P here below l q = let h : l < suc i = omega (arith, after .class) in elim (last h) [ inl e ↦ rw e here | inr m ↦ below l m ]
+
+        next-number : t′ .class ≡ suc i
+        next-number = after .class ∙ add-one i
+
+        taken : size n (setOf members) ≡ size n (C′ i)
+        taken = weight-alike n (λ k. 1) A (C′ i) alike-here
+
+        -- what remains
+        rest′ : (k : ℕ) → k < n → getD (t′ .remaining) k false ≡ remaining C′ (suc i) k
+        unfolding remaining
+        rest′ k q =
+            after .remaining k (omega arith)
+            ∙ ap₂ (λ (a b : Bool). a && not b) (so .rest k q ∙ remaining-alike S C C′ i alike-below k q) (alike-here k q)
+
+        counted′ : size n (remaining C′ (suc i)) + t′ .classed ≡ n
+        unfolding remaining
+        counted′ =
+            omega (
+              arith,
+              so .counted,
+              after .classed,
+              taken,
+              weight-part n (λ k. 1) (C′ i) (remaining C′ i),
+              weight-alike n (λ k. 1) (remaining C i) (remaining C′ i) (remaining-alike S C C′ i alike-below),
+              weight-alike n (λ k. 1) (remaining C′ i ∩ C′ i) (C′ i)
+                  (λ k q. same-test _ (C′ i k) (and-right (remaining C′ i k) (C′ i k))
+                  (λ u. and-both (remaining C′ i k) (C′ i k) (rw (remaining-alike S C C′ i alike-below k q) at (remained k q (rw (← alike-here k q) at u))) u)),
+            )
+
+        later′ : (k l : ℕ) → k < n → t′ .class ≤ l → l < 24 → T (C′ l k) → ⊥
+        later′ k l q m h v =
+            member-or k (λ u. omega (arith, eqb→eq i l (rw (of-member k l q u) at v), after .class))
+            (λ u. so .later k l q (omega (arith, after .class)) h (rw (of-other k l q u) at v))
+
+        -- the shares
+        share-at : (k j : ℕ) → k < n → j < J → cell shares′ k j ≡ choose (A k) (cell x k j) (cell shares k j)
+        share-at k j q m =
+            kept (k * 47 + j) (omega arith) ∙ ap (λ (d : ℕ). choose (getD members d false) (cell x k j) (cell shares k j)) (digits-div k (omega arith))
+
+        share-other : (k j : ℕ) → k < n → j < J → (T (A k) → ⊥) → cell shares′ k j ≡ cell shares k j
+        share-other k j q m u = go (A k) u (share-at k j q m)
+          where
+            go : (b : Bool) → (T b → ⊥) → cell shares′ k j ≡ choose b (cell x k j) (cell shares k j) → cell shares′ k j ≡ cell shares k j
+            go true u e = absurd (u tt)
+            go false u e = e
+
+        share-member : (k j : ℕ) → k < n → j < J → T (A k) → cell shares′ k j ≡ cell x k j
+        share-member k j q m u = go (A k) u (share-at k j q m)
+          where
+            go : (b : Bool) → T b → cell shares′ k j ≡ choose b (cell x k j) (cell shares k j) → cell shares′ k j ≡ cell x k j
+            go true u e = e
+
+        shares-below : (l k j : ℕ) → l < i → k < n → j < J → sharesIn t shares l k j ≡ sharesIn t′ shares′ l k j
+        shares-below l k j m q h =
+            let gone : T (A k) → T (C l k) → ⊥ = λ u v. remaining-not C i l k m (remained k q u) v in
+            member-or k
+            (λ u. on-no (C l k) _ (gone u) ∙ sym (on-no (C′ l k) _ (λ v. gone u (rw (← alike-below l m k q) at v))))
+            (λ u. ap₂ on (alike-below l m k q) (sym (share-other k j q h u)))
+
+        shares-here : (k j : ℕ) → k < n → j < J → cell x k j ≡ sharesIn t′ shares′ i k j
+        shares-here k j q m =
+            member-or k
+            (λ u. sym (on-yes (C′ i k) (cell shares′ k j) (rw (alike-here k q) at u) ∙ share-member k j q m u))
+            (λ u. none u ∙ sym (on-no (C′ i k) _ (λ v. u (rw (← alike-here k q) at v))))
+          where
+            none : (T (A k) → ⊥) → cell x k j ≡ 0
+            none u =
+                let e : on (A k && activeOf active k j) (getD lens j 0 * W S A) ≡ 0 = on-no (A k && activeOf active k j) _ (λ v. u (and-left (A k) (activeOf active k j) v)) in
+                omega (arith, chosen .valid .roomy k j q m)
+
+        -- what is worked out for the members is so for the next class, and what was for an earlier class still is
+        module _ (l : ℕ) (m : l < i) where
+          grams-below : getD (t′ .grams) l 0 ≡ W S (C′ l)
+          grams-below = after .other-grams l (λ e. omega arith) ∙ so .grams l m ∙ weight-alike n _ (C l) (C′ l) (alike-below l m)
+
+          time-below : getD (t′ .time) l 0 ≡ classP S F C′ l
+          time-below = after .other-time l (λ e. omega arith) ∙ so .time l m ∙ time-as (free S F C l) (free S F C′ l) (λ j q. free′ l (omega arith) j) (C l) (C′ l) (alike-below l m)
+
+          row-below : (j : ℕ) → j < J → rowAt table′ l j ≡ reserved S F C′ l j
+          row-below j q = row .others l j (λ e. omega arith) ∙ so .rows l j m q ∙ fans-as (free S F C l) (free S F C′ l) (λ j q. free′ l (omega arith) j) (C l) (C′ l) (alike-below l m) j q
+
+          valid-below : Valid S (free S F C′ l) (C′ l) (sharesIn t′ shares′ l)
+          valid-below =
+              valid-as (free S F C l) (free S F C′ l) (λ j q. free′ l (omega arith) j) (C l) (C′ l) (alike-below l m) (sharesIn t shares l) (sharesIn t′ shares′ l)
+              (λ k j q h. shares-below l k j m q h) (so .valid l m)
+
+        pub so-far-next : SoFar S F t′ table′ shares′
+        so-far-next = record {
+          tall = row .tall;
+          found = subst (λ (m : ℕ). Found S F m C′) (sym next-number) (found-more S F i C C′ alike-below (so .found)
+              (next-as (rowOf free-row) (free S F C i) rows-here
+              (setOf (t .remaining)) (remaining C i) A (C′ i) (so .rest) alike-here (chosen .next)));
+          rest = λ k q. rest′ k q ∙ ap (λ (m : ℕ). remaining C′ m k) (sym next-number);
+          counted = subst (λ (m : ℕ). size n (remaining C′ m) + t′ .classed ≡ n) (sym next-number) counted′;
+          each = omega (arith, so .each, after .class, after .classed, some-size n A (chosen .next .some));
+          later = later′;
+          grams = each-class (λ l. getD (t′ .grams) l 0 ≡ W S (C′ l)) (after .grams ∙ measured .grams ∙ weight-alike n _ A (C′ i) alike-here) grams-below;
+          time = each-class (λ l. getD (t′ .time) l 0 ≡ classP S F C′ l) (after .time ∙ measured .time ∙ time-as (rowOf free-row) (free S F C′ i) rows′ A (C′ i) alike-here) time-below;
+          rows = λ l j q m. each-class (λ l. rowAt table′ l j ≡ reserved S F C′ l j)
+              (row .own j (omega arith) ∙ measured .fans j m ∙ fans-as (rowOf free-row) (free S F C′ i) rows′ A (C′ i) alike-here j m)
+              (λ l h. row-below l h j m) l q;
+          valid = each-class (λ l. Valid S (free S F C′ l) (C′ l) (sharesIn t′ shares′ l))
+              (valid-as (rowOf free-row) (free S F C′ i) rows′ A (C′ i) alike-here (cell x) (sharesIn t′ shares′ i) shares-here (chosen .valid)) valid-below;
+        }
+
+  -- at first no class is found, and every dose remains
+  pub so-far-start : (t : Tally) (table : List (List ℕ)) (shares : List ℕ) → t .class ≡ 0 → t .classed ≡ 0 → t .remaining ≡ replicate 24 true
+      → t .numbers ≡ replicate 24 24 → length table ≡ 24 → SoFar S F t table shares
+  so-far-start t table shares c z r m h = record {
+    tall = h;
+    found = subst (λ (i : ℕ). Found S F i (classesIn t)) (sym c) (found-none S F (classesIn t));
+    rest = λ k q. ap (λ (l : List Bool). getD l k false) r ∙ all-true 24 k (omega arith) ∙ sym (ap (λ (i : ℕ). remaining (classesIn t) i k) c ∙ all-remain (classesIn t) k);
+    counted = ap (λ (i : ℕ). size n (remaining (classesIn t) i) + t .classed) c ∙ omega (arith, weight-alike n (λ k. 1) (remaining (classesIn t) 0) (λ k. true) (λ k q. all-remain (classesIn t) k), size-all n);
+    each = omega arith;
+    later = λ k i q g l v. omega (arith, eqb→eq (getD (t .numbers) k 0) i v, ap (λ (l : List ℕ). getD l k 0) m, all-none 24 k (omega arith));
+    grams = λ i l. absurd (omega arith);
+    time = λ i l. absurd (omega arith);
+    rows = λ i j l. absurd (omega arith);
+    valid = λ i l. absurd (omega arith);
+  }
+
+  -- no dose remains: these are the classes
+  pub so-far-end : (t : Tally) (table : List (List ℕ)) (shares : List ℕ) → SoFar S F t table shares → t .classed ≡ n → Classes S F (t .class) (classesIn t)
+  so-far-end t table shares so e = found-all S F (t .class) (classesIn t) (so .found) (omega (arith, so .counted))

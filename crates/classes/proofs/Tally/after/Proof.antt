@@ -1,0 +1,68 @@
+use Prim.Native.Nat.{ℕ, _+_}
+use mathlib.Core.Path.{_≡_, refl, ap}
+use lib.ListN.{length}
+use native.Mathlib.Omega.{arith}
+use borrow.Author.Needs.{needs}
+use lib.Seq.{getD-set-same, getD-set-other}
+use Rattle.classes.proofs.Tally.after.Statement.{statement}
+use Rattle.classes.proofs.Tally.after.Tie as tie
+
+left-of-requires : tie.Need-left-of-requires
+left-of-requires c κs = search needs
+
+cast-numbered : tie.Need-cast-numbered
+cast-numbered c = search needs
+
+numbered-requires : tie.Need-numbered-requires
+numbered-requires c κs = search needs
+
+mul-grams : tie.Need-mul-grams
+mul-grams c = search needs
+
+array-write-grams : tie.Need-array-write-grams
+array-write-grams c = search needs
+
+mul-time : tie.Need-mul-time
+mul-time c = search needs
+
+array-write-time : tie.Need-array-write-time
+array-write-time c = search needs
+
+add-t13 : tie.Need-add-t13
+add-t13 c = search needs
+
+size-of-requires : tie.Need-size-of-requires
+size-of-requires c κs = search needs
+
+add-t19 : tie.Need-add-t19
+add-t19 c = search needs
+
+returns : tie.Need-returns
+returns c =
+    let A = c .before .before .before .before .before .before .before .before .before .args in
+    record {
+      class = refl;
+      classed = ap (λ (m : ℕ). A .self .classed + m) (c .before .size-of .ensures .0);
+      remaining = c .before .before .before .before .before .before .left-of .ensures;
+      numbers = c .before .before .before .before .numbered .ensures;
+      grams = getD-set-same (A .self .grams) (A .self .class) _ 0 (let e : length (A .self .grams) ≡ 24 = search needs in omega (arith, c .before .before .before .before .before .before .before .before .before .pre .0));
+      time = getD-set-same (A .self .time) (A .self .class) _ 0 (let e : length (A .self .time) ≡ 24 = search needs in omega (arith, c .before .before .before .before .before .before .before .before .before .pre .0));
+      other-grams = λ i d. getD-set-other (A .self .grams) (A .self .class) i _ 0 d;
+      other-time = λ i d. getD-set-other (A .self .time) (A .self .class) i _ 0 d;
+    }
+
+pub after-spec : {M : Type 1} → statement M
+after-spec =
+    tie.close
+    (tie.spec
+    left-of-requires
+    cast-numbered
+    numbered-requires
+    mul-grams
+    array-write-grams
+    mul-time
+    array-write-time
+    add-t13
+    size-of-requires
+    add-t19
+    returns)

@@ -1,0 +1,61 @@
+use Prim.Native.Nat.{ℕ, _<_, _≤_, _-_}
+use mathlib.Core.Path.{_≡_}
+use mathlib.Core.Bool.{false, not, _&&_}
+use lib.ListN.{length, getD, length-set}
+use native.Mathlib.Omega.{arith}
+use borrow.Author.Needs.{needs}
+use Rattle.classes.proofs.Loops.{stored}
+use Rattle.classes.proofs.left_of.Statement.{statement}
+use Rattle.classes.proofs.left_of.Tie as tie
+
+abbrev Inv-loop : tie.InvT-loop
+Inv-loop remaining members left₀ k₀ left k = (k ≤ 24) × (length left ≡ 24) × ((m : ℕ) → m < k → getD left m false ≡ (getD remaining m false && not (getD members m false)))
+
+abbrev μ-loop : tie.MeasureT-loop
+μ-loop remaining members left₀ k₀ left k = 24 - k
+
+loop-holds : tie.Need-loop-holds Inv-loop μ-loop
+loop-holds c = (omega arith, search needs, λ k h. absurd (omega arith))
+
+array-read-without : tie.Need-array-read-without Inv-loop μ-loop
+array-read-without c = search needs
+
+array-read-without-2 : tie.Need-array-read-without-2 Inv-loop μ-loop
+array-read-without-2 c = search needs
+
+without-requires : tie.Need-without-requires Inv-loop μ-loop
+without-requires c κs = search needs
+
+array-write-left : tie.Need-array-write-left Inv-loop μ-loop
+array-write-left c = search needs
+
+add-k : tie.Need-add-k Inv-loop μ-loop
+add-k c = search needs
+
+loop-less : tie.Need-loop-less Inv-loop μ-loop
+loop-less c = search needs
+
+loop-again : tie.Need-loop-again Inv-loop μ-loop
+loop-again c =
+    let A = c .before .before .before .args in
+    let L = c .before .before .loop in
+    (omega arith, simp length-set (L .inv .1), stored false (λ k. getD (A .t1) k false && not (getD (A .t2) k false)) (L .left) (L .k) _ (omega arith) (L .inv .2) (c .without .ensures))
+
+returns : tie.Need-returns Inv-loop μ-loop
+returns c = λ k h. c .before .loop .inv .2 k (omega arith)
+
+pub left-of-spec : {M : Type 1} → statement M
+left-of-spec =
+    tie.close
+    (tie.spec
+    Inv-loop
+    μ-loop
+    loop-holds
+    array-read-without
+    array-read-without-2
+    without-requires
+    array-write-left
+    add-k
+    loop-less
+    loop-again
+    returns)

@@ -1,0 +1,59 @@
+use mathlib.Core.Path.{refl}
+use native.Mathlib.Omega.{arith}
+use borrow.Author.Needs.{needs}
+use Rattle.classes.proofs.OnePhase.{some-remain, some-size, so-far-next}
+use Rattle.classes.specs.Sheet.{setOf}
+use Rattle.classes.proofs.phase.Statement.{statement}
+use Rattle.classes.proofs.phase.Tie as tie
+
+free-fans-requires : tie.Need-free-fans-requires
+free-fans-requires c κs = search needs
+
+slice-aggregate-next-class : tie.Need-slice-aggregate-next-class
+slice-aggregate-next-class c = search needs
+
+next-class-requires : tie.Need-next-class-requires
+next-class-requires c κs =
+    let A = c .before .before .before .before .before .args in
+    let sheet = c .before .before .before .before .before .pre .1 in
+    (refl, sheet, some-remain (A .doses) (A .intervals) (A .active .now) (A .lens .now) (A .grams .now) (λ j. A .fans) (sheet .few-doses) (sheet .few-intervals) (A .tally) _ _ (c .before .before .before .before .before .pre .2) (c .before .before .before .before .before .pre .3))
+
+reserve-requires : tie.Need-reserve-requires
+reserve-requires c κs = search needs
+
+slice-aggregate-keep-shares : tie.Need-slice-aggregate-keep-shares
+slice-aggregate-keep-shares c = search needs
+
+keep-shares-requires : tie.Need-keep-shares-requires
+keep-shares-requires c κs = search needs
+
+after-requires : tie.Need-after-requires
+after-requires c κs = search needs
+
+same-length : tie.Need-same-length
+same-length c = search needs
+
+returns : tie.Need-returns
+returns c =
+    let A = c .before .before .before .before .before .before .before .before .before .before .before .before .before .before .before .before .before .args in
+    let sheet = c .before .before .before .before .before .before .before .before .before .before .before .before .before .before .before .before .before .pre .1 in
+    let next = c .before .before .before .before .before .before .before .before .before .before .before .next-class .ensures in
+    let after = c .after .ensures in (
+      so-far-next (A .doses) (A .intervals) (A .active .now) (A .lens .now) (A .grams .now) (λ j. A .fans) (sheet .few-doses) (sheet .few-intervals) (A .tally) _ _ (c .before .before .before .before .before .before .before .before .before .before .before .before .before .before .before .before .before .pre .2) (c .before .before .before .before .before .before .before .before .before .before .before .before .before .before .before .before .before .pre .3)
+          (c .before .before .before .before .before .before .before .before .before .before .before .before .before .before .free-fans .result) (c .before .before .before .before .before .before .before .before .before .before .before .before .before .before .free-fans .ensures) (c .before .before .before .before .before .before .before .before .before .before .before .next-class .result .members) _ (c .before .before .before .before .before .before .before .before .before .before .before .next-class .result .reserved) _ _ (next .0) (next .2) (c .after .result) _ _ after (c .before .before .before .before .before .before .before .reserve .ensures) (c .before .before .before .keep-shares .ensures),
+      omega (arith, after .classed, some-size (A .doses) (setOf (c .before .before .before .before .before .before .before .before .before .before .before .next-class .result .members)) (next .2 .next .some)),
+    )
+
+pub phase-spec : {M : Type 1} → statement M
+phase-spec =
+    tie.close
+    (tie.spec
+    free-fans-requires
+    slice-aggregate-next-class
+    next-class-requires
+    reserve-requires
+    slice-aggregate-keep-shares
+    keep-shares-requires
+    after-requires
+    same-length
+    returns)

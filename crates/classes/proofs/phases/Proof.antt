@@ -1,0 +1,55 @@
+use Prim.Native.Nat.{_≤_, _-_}
+use mathlib.Core.Path.{_≡_}
+use lib.ListN.{length}
+use native.Mathlib.Omega.{arith}
+use borrow.Author.Needs.{needs}
+use Rattle.classes.specs.Sheet.{settingFrom}
+use Rattle.classes.specs.Phase.{SoFar}
+use Rattle.classes.proofs.OnePhase.{so-far-start}
+use Rattle.classes.proofs.phases.Statement.{statement}
+use Rattle.classes.proofs.phases.Tie as tie
+
+abbrev Inv-loop : tie.InvT-loop
+Inv-loop shares₀ table₀ active lens grams doses intervals fans sequence tally₀ shares table tally = (length shares ≡ 1128) × (tally .classed ≤ doses) × SoFar (settingFrom doses intervals active lens grams) (λ j. fans) tally table shares
+
+abbrev μ-loop : tie.MeasureT-loop
+μ-loop shares₀ table₀ active lens grams doses intervals fans sequence tally₀ shares table tally = doses - tally .classed
+
+start-requires : tie.Need-start-requires Inv-loop μ-loop
+start-requires c κs = search needs
+
+loop-holds : tie.Need-loop-holds Inv-loop μ-loop
+loop-holds c =
+    let A = c .before .before .args in
+    let sheet = c .before .before .pre .2 in
+    let z = c .start .ensures in
+    (c .before .before .pre .0, omega (arith, z .1), so-far-start (A .doses) (A .intervals) (A .active .now) (A .lens .now) (A .grams .now) (λ j. A .fans) (sheet .few-doses) (sheet .few-intervals) _ _ _ (z .0) (z .1) (z .2) (z .3) (c .before .before .pre .1))
+
+phase-requires : tie.Need-phase-requires Inv-loop μ-loop
+phase-requires c κs = (c .before .before .before .before .loop .inv .0, c .before .before .before .before .before .before .before .pre .2, c .before .before .before .before .loop .inv .2, c .before .before .if1 .taken)
+
+loop-less : tie.Need-loop-less Inv-loop μ-loop
+loop-less c = omega (arith, c .before .before .phase .ensures .1, c .before .before .before .before .before .if1 .taken)
+
+loop-again : tie.Need-loop-again Inv-loop μ-loop
+loop-again c = (search needs, omega (arith, c .before .before .phase .ensures .0 .counted), c .before .before .phase .ensures .0)
+
+same-length : tie.Need-same-length Inv-loop μ-loop
+same-length c = search needs
+
+returns : tie.Need-returns Inv-loop μ-loop
+returns c = (c .before .before .loop .inv .2, omega (arith, c .if1 .left, c .before .before .loop .inv .1))
+
+pub phases-spec : {M : Type 1} → statement M
+phases-spec =
+    tie.close
+    (tie.spec
+    Inv-loop
+    μ-loop
+    start-requires
+    loop-holds
+    phase-requires
+    loop-less
+    loop-again
+    same-length
+    returns)

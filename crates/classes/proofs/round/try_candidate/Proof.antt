@@ -1,0 +1,76 @@
+use lib.ListN.{set}
+use borrow.Author.Needs.{needs}
+use Rattle.classes.proofs.OneRound.{measured, tried}
+use Rattle.classes.proofs.round.try_candidate.Statement.{statement}
+use Rattle.classes.proofs.round.try_candidate.Tie as tie
+
+grams-of-requires : tie.Need-grams-of-requires
+grams-of-requires c κs = search needs
+
+open-fans-requires : tie.Need-open-fans-requires
+open-fans-requires c κs = search needs
+
+fan-time-requires : tie.Need-fan-time-requires
+fan-time-requires c κs = search needs
+
+rooms-of-requires : tie.Need-rooms-of-requires
+rooms-of-requires c κs = search needs
+
+holds-of-requires : tie.Need-holds-of-requires
+holds-of-requires c κs = search needs
+
+needs-of-requires : tie.Need-needs-of-requires
+needs-of-requires c κs = search needs
+
+slice-aggregate-find-shares : tie.Need-slice-aggregate-find-shares
+slice-aggregate-find-shares c = search needs
+
+slice-aggregate-find-shares-2 : tie.Need-slice-aggregate-find-shares-2
+slice-aggregate-find-shares-2 c = search needs
+
+slice-aggregate-find-shares-3 : tie.Need-slice-aggregate-find-shares-3
+slice-aggregate-find-shares-3 c = search needs
+
+find-shares-requires : tie.Need-find-shares-requires
+find-shares-requires c κs = search needs
+
+slice-aggregate-all-met : tie.Need-slice-aggregate-all-met
+slice-aggregate-all-met c = search needs
+
+all-met-requires : tie.Need-all-met-requires
+all-met-requires c κs = search needs
+
+dead-part-requires : tie.Need-dead-part-requires
+dead-part-requires c κs = search needs
+
+same-length : tie.Need-same-length
+same-length c = search needs
+
+returns : tie.Need-returns
+returns c =
+    let A = c .before .before .before .before .before .before .before .before .before .before .before .before .before .before .before .before .before .before .args in
+    let sheet = c .before .before .before .before .before .before .before .before .before .before .before .before .before .before .before .before .before .before .pre .1 in
+    let ho = c .before .before .before .before .before .before .before .before .before .before .before .before .before .before .before .open-fans .ensures .0 in
+    let hw = c .before .before .before .before .before .before .before .before .before .before .before .before .before .before .before .before .grams-of .ensures .0 in
+    let hp = c .before .before .before .before .before .before .before .before .before .before .before .before .before .before .fan-time .ensures .0 in
+    (measured _ _ _ _ _ (A .free) (A .set) sheet _ _ _ ho hw hp, c .before .before .before .before .before .before .before .before .before .before .before .before .before .before .before .open-fans .ensures .1, tried _ _ _ _ _ (A .free) (A .set) sheet (c .before .before .before .before .before .before .before .before .before .before .before .before .before .before .before .open-fans .result) _ _ ho hw hp _ _ _ (c .before .before .before .before .before .before .before .before .before .before .before .before .before .rooms-of .ensures) (c .before .before .before .before .before .before .before .before .before .before .before .before .holds-of .ensures) (c .before .before .before .before .before .before .before .before .before .before .before .needs-of .ensures) _ _ (c .dead-part .result) _ (c .before .before .before .before .before .before .find-shares .ensures) (c .before .all-met .ensures) (c .dead-part .ensures))
+
+pub try-candidate-spec : {M : Type 1} → statement M
+try-candidate-spec =
+    tie.close
+    (tie.spec
+    grams-of-requires
+    open-fans-requires
+    fan-time-requires
+    rooms-of-requires
+    holds-of-requires
+    needs-of-requires
+    slice-aggregate-find-shares
+    slice-aggregate-find-shares-2
+    slice-aggregate-find-shares-3
+    find-shares-requires
+    slice-aggregate-all-met
+    all-met-requires
+    dead-part-requires
+    same-length
+    returns)

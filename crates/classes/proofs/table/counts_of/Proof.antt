@@ -1,0 +1,60 @@
+use Prim.Native.Nat.{ℕ, _<_, _≤_, _-_}
+use mathlib.Core.Path.{_≡_, refl}
+use lib.ListN.{length, getD, length-set}
+use native.Mathlib.Omega.{arith}
+use borrow.Author.Needs.{needs}
+use Rattle.classes.proofs.Loops.{stored}
+use Rattle.classes.proofs.table.counts_of.Statement.{statement}
+use Rattle.classes.proofs.table.counts_of.Tie as tie
+
+abbrev Inv-loop : tie.InvT-loop
+Inv-loop reserved counts₀ j₀ counts j = (j ≤ 47) × (length counts ≡ 47) × ((m : ℕ) → m < j → getD counts m 0 ≡ getD reserved m 0)
+
+abbrev μ-loop : tie.MeasureT-loop
+μ-loop reserved counts₀ j₀ counts j = 47 - j
+
+loop-holds : tie.Need-loop-holds Inv-loop μ-loop
+loop-holds c = (omega arith, search needs, λ k h. absurd (omega arith))
+
+mul-counts : tie.Need-mul-counts Inv-loop μ-loop
+mul-counts c = search needs
+
+array-read-counts : tie.Need-array-read-counts Inv-loop μ-loop
+array-read-counts c = search needs
+
+cast-counts : tie.Need-cast-counts Inv-loop μ-loop
+cast-counts c = omega (arith, c .before .before .pre (c .before .loop .j))
+
+array-write-counts : tie.Need-array-write-counts Inv-loop μ-loop
+array-write-counts c = search needs
+
+add-j : tie.Need-add-j Inv-loop μ-loop
+add-j c = search needs
+
+loop-less : tie.Need-loop-less Inv-loop μ-loop
+loop-less c = search needs
+
+loop-again : tie.Need-loop-again Inv-loop μ-loop
+loop-again c =
+    let A = c .before .before .args in
+    let L = c .before .loop in
+    (omega arith, simp length-set (L .inv .1), stored 0 (λ j. getD (A .t1) j 0) (L .counts) (L .j) _ (omega arith) (L .inv .2) refl)
+
+returns : tie.Need-returns Inv-loop μ-loop
+returns c = λ k h. c .before .loop .inv .2 k (omega arith)
+
+pub counts-of-spec : {M : Type 1} → statement M
+counts-of-spec =
+    tie.close
+    (tie.spec
+    Inv-loop
+    μ-loop
+    loop-holds
+    mul-counts
+    array-read-counts
+    cast-counts
+    array-write-counts
+    add-j
+    loop-less
+    loop-again
+    returns)

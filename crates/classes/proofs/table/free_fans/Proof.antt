@@ -1,0 +1,62 @@
+use Prim.Native.Nat.{ℕ, _<_, _≤_, _-_}
+use mathlib.Core.Path.{_≡_, ap, _∙_}
+use lib.ListN.{length, getD, length-set}
+use native.Mathlib.Omega.{arith}
+use borrow.Author.Needs.{needs}
+use Rattle.model.specs.Sets.{sum}
+use Rattle.classes.proofs.Loops.{stored}
+use Rattle.classes.specs.Phase.{rowAt}
+use Rattle.classes.proofs.table.free_fans.Statement.{statement}
+use Rattle.classes.proofs.table.free_fans.Tie as tie
+
+abbrev Inv-loop : tie.InvT-loop
+Inv-loop table fans classes free₀ j₀ free j = (j ≤ 47) × (length free ≡ 47) × ((m : ℕ) → m < j → getD free m 0 ≡ fans - sum classes (λ i. rowAt table i m))
+
+abbrev μ-loop : tie.MeasureT-loop
+μ-loop table fans classes free₀ j₀ free j = 47 - j
+
+loop-holds : tie.Need-loop-holds Inv-loop μ-loop
+loop-holds c = (omega arith, search needs, λ k h. absurd (omega arith))
+
+reserved-before-requires : tie.Need-reserved-before-requires Inv-loop μ-loop
+reserved-before-requires c κs = search needs
+
+less-requires : tie.Need-less-requires Inv-loop μ-loop
+less-requires c κs = search needs
+
+mul-free : tie.Need-mul-free Inv-loop μ-loop
+mul-free c = search needs
+
+array-write-free : tie.Need-array-write-free Inv-loop μ-loop
+array-write-free c = search needs
+
+add-j : tie.Need-add-j Inv-loop μ-loop
+add-j c = search needs
+
+loop-less : tie.Need-loop-less Inv-loop μ-loop
+loop-less c = search needs
+
+loop-again : tie.Need-loop-again Inv-loop μ-loop
+loop-again c =
+    let A = c .before .before .before .before .args in
+    let L = c .before .before .before .loop in
+    (omega arith, simp length-set (L .inv .1), stored 0 (λ j. A .fans - sum (A .classes) (λ i. rowAt (A .table .now) i j)) (L .free) (L .j) _ (omega arith) (L .inv .2) (c .less .ensures ∙ ap (λ (n : ℕ). A .fans - n) (c .before .reserved-before .ensures)))
+
+returns : tie.Need-returns Inv-loop μ-loop
+returns c = λ k h. c .before .loop .inv .2 k (omega arith)
+
+pub free-fans-spec : {M : Type 1} → statement M
+free-fans-spec =
+    tie.close
+    (tie.spec
+    Inv-loop
+    μ-loop
+    loop-holds
+    reserved-before-requires
+    less-requires
+    mul-free
+    array-write-free
+    add-j
+    loop-less
+    loop-again
+    returns)

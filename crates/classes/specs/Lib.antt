@@ -1,0 +1,4 @@
+pub mod Sheet
+pub mod Round
+pub mod Phase
+pub mod Answer

@@ -1,0 +1,67 @@
+-- The phases, one for each class.
+use mathlib.Core.Path.{_≡_}
+use mathlib.Core.Bool.{Bool, false, not, _&&_}
+use mathlib.Core.Logic.{_≢_}
+use mathlib.Core.List.{List, []}
+use Prim.Native.Nat.{ℕ, _+_, _/_, _<_, _≤_}
+use lib.Dec.{T, eqb}
+use lib.ListN.{length, getD}
+use Rattle.model.specs.Sets.{on, Doses}
+use Rattle.model.specs.Classes.{Setting, Row, W, classP, remaining, free}
+use Rattle.model.specs.Classes as classes
+use Rattle.model.specs.Shares.{Valid}
+use Rattle.model.proofs.Sets.{size}
+use Rattle.model.proofs.Sequence.{Found}
+use Rattle.share.specs.Share.{cell}
+use Rattle.classes.specs.Sheet.{setOf, choose}
+use Rattle.classes.specs.declared.Tally.{Tally}
+
+-- the fans that class i reserves in interval j
+abbrev pub rowAt : List (List ℕ) → ℕ → ℕ → ℕ
+rowAt table i j = getD (getD table i []) j 0
+
+-- the table has the row of class i, and the other rows as before
+pub record Reserved (i : ℕ) (reserved : List ℕ) (before after : List (List ℕ)) : Type 0 where
+  pub tall : length after ≡ 24
+  pub own : (j : ℕ) → j < 47 → rowAt after i j ≡ getD reserved j 0
+  pub others : (l j : ℕ) → l ≢ i → rowAt after l j ≡ rowAt before l j
+
+-- class i by the number of each dose
+abbrev pub classOf : List ℕ → ℕ → Doses
+classOf numbers i k = eqb (getD numbers k 0) i
+
+-- the classes that the tally has
+abbrev pub classesIn : Tally → ℕ → Doses
+classesIn t = classOf (t .numbers)
+
+-- the shares of class i
+abbrev pub sharesIn : Tally → List ℕ → ℕ → ℕ → ℕ → ℕ
+sharesIn t shares i k j = on (classesIn t i k) (cell shares k j)
+
+-- the tally with one class more: its doses, W and P
+pub record After (n : ℕ) (members : List Bool) (w p : ℕ) (t r : Tally) : Type 0 where
+  pub class : r .class ≡ t .class + 1
+  pub classed : r .classed ≡ t .classed + size n (setOf members)
+  pub remaining : (k : ℕ) → k < 24 → getD (r .remaining) k false ≡ (getD (t .remaining) k false && not (getD members k false))
+  pub numbers : (k : ℕ) → k < 24 → getD (r .numbers) k 0 ≡ choose (getD members k false) (t .class) (getD (t .numbers) k 0)
+  pub grams : getD (r .grams) (t .class) 0 ≡ w
+  pub time : getD (r .time) (t .class) 0 ≡ p
+  pub other-grams : (i : ℕ) → i ≢ t .class → getD (r .grams) i 0 ≡ getD (t .grams) i 0
+  pub other-time : (i : ℕ) → i ≢ t .class → getD (r .time) i 0 ≡ getD (t .time) i 0
+
+-- the shares of the members are those of x, and the others as before
+abbrev pub KeptShares : List Bool → List ℕ → List ℕ → List ℕ → Type 0
+KeptShares members x before after = (i : ℕ) → i < 1128 → getD after i 0 ≡ choose (getD members (i / 47) false) (getD x i 0) (getD before i 0)
+
+-- the tally so far, with the table of reservations and the shares of the classes that it has
+pub record SoFar (S : Setting) (F : Row) (t : Tally) (table : List (List ℕ)) (shares : List ℕ) : Type 0 where
+  pub tall : length table ≡ 24
+  pub found : Found S F (t .class) (classesIn t)
+  pub rest : (k : ℕ) → k < S .doses → getD (t .remaining) k false ≡ remaining (classesIn t) (t .class) k
+  pub counted : size (S .doses) (remaining (classesIn t) (t .class)) + t .classed ≡ S .doses
+  pub each : t .class ≤ t .classed
+  pub later : (k i : ℕ) → k < S .doses → t .class ≤ i → i < 24 → T (classesIn t i k) → ⊥
+  pub grams : (i : ℕ) → i < t .class → getD (t .grams) i 0 ≡ W S (classesIn t i)
+  pub time : (i : ℕ) → i < t .class → getD (t .time) i 0 ≡ classP S F (classesIn t) i
+  pub rows : (i j : ℕ) → i < t .class → j < S .intervals → rowAt table i j ≡ classes.reserved S F (classesIn t) i j
+  pub valid : (i : ℕ) → i < t .class → Valid S (free S F (classesIn t) i) (classesIn t i) (sharesIn t shares i)

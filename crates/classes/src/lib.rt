@@ -1,0 +1,274 @@
+// The rate classes of an order and their shares (document 01, "From doses to classes"). Doses and intervals stand in arrays: dose k is
+// active in interval j at k * 47 + j, and nothing stands past the doses and the intervals.
+mod measure; // measure.rt: W, P and open fans of a set
+mod round; // round.rt: the next class
+mod sheet; // sheet.rt: an order in arrays
+mod table; // table.rt: reservations
+mod top; // top.rt: refusal 9
+
+use measure::size_of;
+use order::Order;
+use round::next_class;
+use sheet::active_in_order;
+use sheet::by_deadline;
+use sheet::grams_in;
+use sheet::interval_count;
+use sheet::lens_in;
+use sheet::wide;
+use table::free_fans;
+use table::reserve;
+use top::first_set;
+use top::not_above;
+ghost use mathlib.Core.Path.{_≡_};
+ghost use mathlib.Core.Bool.{false, true, not, _&&_};
+ghost use Prim.Native.Nat.{ℕ, _<_, _≤_};
+ghost use lib.ListN.{length, getD, replicate};
+ghost use Rattle.model.proofs.Orders.{Fit};
+ghost use Rattle.order.specs.Held.{asOrder};
+ghost use Rattle.classes.specs.Sheet.{settingFrom, Sheet, choose};
+ghost use Rattle.classes.specs.Answer.{ClassesOf, SharesOf, AgainstTop};
+ghost use Rattle.classes.specs.Phase.{After, KeptShares, SoFar};
+
+fn without(a: bool, b: bool) -> bool
+    ensures { λ r. ⌜ r ≡ (a && not b) ⌝ }
+{
+    if a { !b } else { false }
+}
+
+fn choose_share(test: bool, a: u64, b: u64) -> u64
+    ensures { λ r. ⌜ r ≡ choose test a b ⌝ }
+{
+    if test { a } else { b }
+}
+
+fn choose_number(test: bool, a: u8, b: u8) -> u8
+    ensures { λ r. ⌜ r ≡ choose test a b ⌝ }
+{
+    if test { a } else { b }
+}
+
+// The next class: its doses, W and P, and the fans that it reserves.
+pub struct Class {
+    pub members: [bool; 24],
+    pub grams: u64,
+    pub time: u64,
+    pub reserved: [u64; 47],
+}
+
+// The shares of the class's doses are kept; those of other doses stay.
+fn keep_shares(shares: &mut [u64], x: &[u64], members: [bool; 24])
+    requires { ⌜ (length (now shares) ≡ 1128) × (length (now x) ≡ 1128) ⌝ }
+    ensures { λ r. ⌜ KeptShares members (now (x .entry)) (now (shares .entry)) (now (shares .exit)) ⌝ }
+{
+    let mut i = 0;
+    while i < 1128 {
+        shares[i] = choose_share(members[i / 47], x[i], shares[i]);
+        i += 1;
+    }
+}
+
+// The phases so far: "remaining doses, class number and counts", with the class of each dose (24: none yet) and W and P of each class.
+pub struct Tally {
+    pub remaining: [bool; 24],
+    pub class: usize,
+    pub classed: u64,
+    pub numbers: [u8; 24],
+    pub grams: [u64; 24],
+    pub time: [u64; 24],
+}
+
+fn left_of(remaining: [bool; 24], members: [bool; 24]) -> [bool; 24]
+    ensures { λ r. ⌜ ((k : ℕ) → k < 24 → getD r k false ≡ (getD remaining k false && not (getD members k false))) ⌝ }
+{
+    let mut left = [false; 24];
+    let mut k = 0;
+    while k < 24 {
+        left[k] = without(remaining[k], members[k]);
+        k += 1;
+    }
+    left
+}
+
+fn numbered(before: [u8; 24], members: [bool; 24], class: u8) -> [u8; 24]
+    ensures { λ r. ⌜ ((k : ℕ) → k < 24 → getD r k 0 ≡ choose (getD members k false) class (getD before k 0)) ⌝ }
+{
+    let mut numbers = [0u8; 24];
+    let mut k = 0;
+    while k < 24 {
+        numbers[k] = choose_number(members[k], class, before[k]);
+        k += 1;
+    }
+    numbers
+}
+
+impl Tally {
+    pub fn start() -> Self
+        ensures { λ r. ⌜ (r .class ≡ 0) × (r .classed ≡ 0) × (r .remaining ≡ replicate 24 true) × (r .numbers ≡ replicate 24 24) ⌝ }
+    {
+        Tally {
+            remaining: [true; 24],
+            class: 0,
+            classed: 0,
+            numbers: [24; 24],
+            grams: [0; 24],
+            time: [0; 24],
+        }
+    }
+
+    // The tally after one class more.
+    pub fn after(self, class: Class, doses: usize) -> Self
+        requires { ⌜ (self .class < 24) × (self .classed ≤ 24) × (doses ≤ 24) ⌝ }
+        ensures { λ r. ⌜ After doses (class .members) (class .grams) (class .time) self r ⌝ }
+    {
+        let members = class.members;
+        let number = self.class;
+        let rest = self.remaining;
+        let remaining = left_of(rest, members);
+        let before = self.numbers;
+        let numbers = numbered(before, members, number as u8);
+        let mut grams = self.grams;
+        grams[number] = class.grams;
+        let mut time = self.time;
+        time[number] = class.time;
+        Tally {
+            remaining,
+            class: number + 1,
+            classed: self.classed + size_of(doses, members),
+            numbers,
+            grams,
+            time,
+        }
+    }
+}
+
+// "A phase takes the tally so far and gives back the next one."
+fn phase(
+    shares: &mut [u64],
+    table: &mut [[u8; 47]; 24],
+    active: &[bool; 1128],
+    lens: &[u64; 47],
+    grams: &[u64; 24],
+    doses: usize,
+    intervals: usize,
+    fans: u64,
+    sequence: [usize; 24],
+    tally: Tally,
+) -> Tally
+    requires { ⌜ (length (now shares) ≡ 1128) × Sheet doses intervals (now active) (now lens) (now grams) × SoFar (settingFrom doses intervals (now active) (now lens) (now grams)) (λ j. fans) tally (now table) (now shares) × (tally .classed < doses) ⌝ }
+    ensures { λ r. ⌜ SoFar (settingFrom doses intervals (now (active .entry)) (now (lens .entry)) (now (grams .entry))) (λ j. fans) r (now (table .exit)) (now (shares .exit)) × (tally .classed < r .classed) ⌝ }
+{
+    let mut x = [0u64; 1128];
+    let class = tally.class;
+    let free = free_fans(table, fans, class);
+    let remaining = tally.remaining;
+    let next = next_class(
+        &mut x,
+        active,
+        lens,
+        grams,
+        doses,
+        intervals,
+        free,
+        remaining,
+        sequence,
+    );
+    let reserved = next.reserved;
+    reserve(table, class, reserved);
+    let members = next.members;
+    keep_shares(shares, &x, members);
+    tally.after(next, doses)
+}
+
+// Phases until no dose remains.
+fn phases(
+    shares: &mut [u64],
+    table: &mut [[u8; 47]; 24],
+    active: &[bool; 1128],
+    lens: &[u64; 47],
+    grams: &[u64; 24],
+    doses: usize,
+    intervals: usize,
+    fans: u64,
+    sequence: [usize; 24],
+) -> Tally
+    requires { ⌜ (length (now shares) ≡ 1128) × (length (now table) ≡ 24) × Sheet doses intervals (now active) (now lens) (now grams) ⌝ }
+    ensures { λ r. ⌜ SoFar (settingFrom doses intervals (now (active .entry)) (now (lens .entry)) (now (grams .entry))) (λ j. fans) r (now (table .exit)) (now (shares .exit)) × (r .classed ≡ doses) ⌝ }
+{
+    let mut tally = Tally::start();
+    while tally.classed < doses as u64 {
+        tally = phase(
+            shares,
+            table,
+            active,
+            lens,
+            grams,
+            doses,
+            intervals,
+            fans,
+            sequence,
+            tally,
+        );
+    }
+    tally
+}
+
+// What refusal 9 answers: whether the first class is above the top rate, and if so the class as a set, its W and P.
+pub struct TooFast {
+    pub above: bool,
+    pub set: u64,
+    pub grams: u64,
+    pub time: u64,
+}
+
+// The classes of an order, with the table of reservations and the shares of every class: dose k's in interval j at k * 47 + j.
+pub fn classes_of(o: Order, shares: &mut [u64; 1128], table: &mut [[u8; 47]; 24]) -> Tally
+    requires { ⌜ Fit (asOrder o) ⌝ }
+    ensures { λ r. ⌜ ClassesOf (asOrder o) r × SharesOf (asOrder o) r (now (table .exit)) (now (shares .exit)) ⌝ }
+{
+    let doses = o.count;
+    let fans = o.fans;
+    let instants = interval::instants_of(o);
+    let intervals = interval_count(instants);
+    let active = active_in_order(o, instants, intervals);
+    let lens = lens_in(instants);
+    let grams = grams_in(o);
+    let sequence = by_deadline(o);
+    let mut own = [0u64; 1128];
+    let mut rows = [[0u8; 47]; 24];
+    let tally = phases(
+        &mut own,
+        &mut rows,
+        &active,
+        &lens,
+        &grams,
+        doses,
+        intervals,
+        fans as u64,
+        sequence,
+    );
+    *shares = own;
+    *table = rows;
+    tally
+}
+
+// Refusal 9: "first class: W × top seconds above P × top grams", by exact products.
+pub fn too_fast(o: Order, t: Tally) -> TooFast
+    requires { ⌜ Fit (asOrder o) × ClassesOf (asOrder o) t ⌝ }
+    ensures { λ r. ⌜ AgainstTop (asOrder o) r ⌝ }
+{
+    if t.class == 0 {
+        return not_above();
+    }
+    let w = t.grams[0];
+    let p = t.time[0];
+    if w * wide(o.top_seconds) <= p * wide(o.top_grams) {
+        return not_above();
+    }
+    let numbers = t.numbers;
+    TooFast {
+        above: true,
+        set: first_set(numbers, o.count),
+        grams: w,
+        time: p,
+    }
+}

@@ -1,0 +1,71 @@
+// The table of reservations: "a row per class and a column per interval".
+ghost use mathlib.Core.Path.{_≡_};
+ghost use Prim.Native.Nat.{ℕ, _-_, _<_, _≤_};
+ghost use lib.ListN.{length, getD};
+ghost use Rattle.model.specs.Sets.{sum};
+ghost use Rattle.classes.specs.Sheet.{Below};
+ghost use Rattle.classes.specs.Phase.{rowAt, Reserved};
+
+// a - b, or 0.
+fn less(a: u64, b: u64) -> u64
+    ensures { λ r. ⌜ r ≡ a - b ⌝ }
+{
+    if a < b { 0 } else { a - b }
+}
+
+fn wide(x: u8) -> u64
+    ensures { λ r. ⌜ (r ≡ x) × (r ≤ 255) ⌝ }
+{
+    x as u64
+}
+
+// The fans that the first classes reserve in interval j.
+fn reserved_before(table: &[[u8; 47]; 24], classes: usize, j: usize) -> u64
+    requires { ⌜ (classes ≤ 24) × (j < 47) ⌝ }
+    ensures { λ r. ⌜ (r ≡ sum classes (λ i. rowAt (now (table .entry)) i j)) ⌝ }
+{
+    let mut sum: u64 = 0;
+    let mut i = 0;
+    while i < classes {
+        sum += wide(table[i][j]);
+        i += 1;
+    }
+    sum
+}
+
+// "fans − fans reserved by earlier classes", for each interval.
+pub fn free_fans(table: &[[u8; 47]; 24], fans: u64, classes: usize) -> [u64; 47]
+    requires { ⌜ classes ≤ 24 ⌝ }
+    ensures { λ r. ⌜ ((j : ℕ) → j < 47 → getD r j 0 ≡ fans - sum classes (λ i. rowAt (now (table .entry)) i j)) ⌝ }
+{
+    let mut free = [0u64; 47];
+    let mut j = 0;
+    while j < 47 {
+        free[j] = less(fans, reserved_before(table, classes, j));
+        j += 1;
+    }
+    free
+}
+
+// Fans as small counts.
+fn counts_of(reserved: [u64; 47]) -> [u8; 47]
+    requires { ⌜ Below 24 reserved ⌝ }
+    ensures { λ r. ⌜ ((j : ℕ) → j < 47 → getD r j 0 ≡ getD reserved j 0) ⌝ }
+{
+    let mut counts = [0u8; 47];
+    let mut j = 0;
+    while j < 47 {
+        counts[j] = reserved[j] as u8;
+        j += 1;
+    }
+    counts
+}
+
+// "The class reserves, per interval, the smaller of the two numbers above": its row of the table.
+pub fn reserve(table: &mut [[u8; 47]; 24], class: usize, reserved: [u64; 47])
+    requires { ⌜ (length (now table) ≡ 24) × (class < 24) × Below 24 reserved ⌝ }
+    ensures { λ r. ⌜ Reserved class reserved (now (table .entry)) (now (table .exit)) ⌝ }
+{
+    let row = counts_of(reserved);
+    table[class] = row;
+}

@@ -1,0 +1,61 @@
+use mathlib.Core.Path.{_≡_, refl}
+use Prim.Native.Nat.{_≤_, _-_}
+use native.Mathlib.Omega.{arith}
+use lib.ListN.{length}
+use Rattle.layout.specs.Held.{asLane, shareAt}
+use Rattle.layout.proofs.Shares.{Kept, kept-none, kept-more, room-at, sum-at, laid-all}
+use Rattle.layout.proofs.lay_class.Statement.{statement}
+use Rattle.layout.proofs.lay_class.Tie as tie
+
+abbrev Inv-loop : tie.InvT-loop
+Inv-loop b₀ r l t shares i j at₀ a₀ k₀ b at a k = (k ≤ t .doses) × (length b ≡ length b₀) × Kept (asLane l) (λ d. shareAt t shares i d j) b₀ r b at a k
+
+abbrev μ-loop : tie.MeasureT-loop
+μ-loop b₀ r l t shares i j at₀ a₀ k₀ b at a k = t .doses - k
+
+loop-holds : tie.Need-loop-holds Inv-loop μ-loop
+loop-holds c = (omega arith, refl, kept-none _ _ _ _)
+
+share-of-requires : tie.Need-share-of-requires Inv-loop μ-loop
+share-of-requires c κs = omega arith
+
+cast-lay-share : tie.Need-cast-lay-share Inv-loop μ-loop
+cast-lay-share c = omega arith
+
+lay-share-requires : tie.Need-lay-share-requires Inv-loop μ-loop
+lay-share-requires c κs = room-at _ _ (c .before .before .before .before .before .before .before .pre .0) (c .before .before .before .before .loop .inv .2) (omega arith) (omega arith) (c .before .share-of .ensures)
+
+add-a : tie.Need-add-a Inv-loop μ-loop
+add-a c = omega (arith, sum-at _ _ (c .before .before .before .before .before .before .before .before .before .before .pre .0) (c .before .before .before .before .before .before .before .loop .inv .2) (omega arith) (c .before .before .before .before .share-of .ensures))
+
+add-k : tie.Need-add-k Inv-loop μ-loop
+add-k c = omega arith
+
+loop-less : tie.Need-loop-less Inv-loop μ-loop
+loop-less c = omega arith
+
+loop-again : tie.Need-loop-again Inv-loop μ-loop
+loop-again c = (omega arith, omega arith, kept-more _ _ (c .before .before .before .before .before .before .before .loop .inv .2) (c .before .before .before .before .share-of .ensures) (c .before .before .lay-share .ensures))
+
+same-length : tie.Need-same-length Inv-loop μ-loop
+same-length c = c .before .before .loop .inv .1
+
+returns : tie.Need-returns Inv-loop μ-loop
+returns c = laid-all _ _ (c .before .before .before .before .before .pre .0) (c .before .before .loop .inv .2) (omega arith)
+
+pub lay-class-spec : {M : Type 1} → statement M
+lay-class-spec =
+    tie.close
+    (tie.spec
+    Inv-loop
+    μ-loop
+    loop-holds
+    share-of-requires
+    cast-lay-share
+    lay-share-requires
+    add-a
+    add-k
+    loop-less
+    loop-again
+    same-length
+    returns)

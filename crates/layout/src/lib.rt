@@ -1,0 +1,237 @@
+// Records of a plan written into a lent buffer, and slots laid by wrap-around (document 01, "From classes to slots").
+ghost use mathlib.Core.Path.{_≡_};
+ghost use mathlib.Core.List.{_++_, map};
+ghost use Prim.Native.Nat.{ℕ, _+_, _*_, _<_, _≤_};
+ghost use lib.ListN.{length, getD};
+ghost use Rattle.field.specs.Written.{written};
+ghost use Rattle.model.specs.Records.{numberBytes};
+ghost use Rattle.model.specs.Plans.{classRecord, slotRecord, planRecordBytes};
+ghost use Rattle.model.specs.Layout.{cut, pieceSlot, laneSlots, intervalSlots, tableSlots};
+ghost use Rattle.layout.specs.Held.{asClass, asSlot, asLane, shareAt, laneAt, tableFrom};
+ghost use Rattle.layout.specs.Laying.{Wrote, Ready, Room, Rooms, Filled};
+
+// "C (0x43) class: 1 class number from 1; 2-3 doses in it; 4-7 W; 8-11 P"
+pub struct Class {
+    pub number: u32,
+    pub doses: u32,
+    pub grams: u32,
+    pub time: u32,
+}
+
+// "S (0x53) slot: 1 fan from 1; 2-3 dose; 4-7 start tick; 8-11 start part; 12-15 end tick; 16-19 end part; 20-23 W; 24-27 P; 28 class number"
+pub struct Slot {
+    pub fan: u32,
+    pub dose: u32,
+    pub start_tick: u32,
+    pub start_part: u32,
+    pub end_tick: u32,
+    pub end_part: u32,
+    pub grams: u32,
+    pub time: u32,
+    pub class: u32,
+}
+
+// One class in one interval: where it starts and how long it is, the class's W, P and number, and the fans below its own.
+pub struct Lane {
+    pub start: u32,
+    pub len: u32,
+    pub grams: u32,
+    pub time: u32,
+    pub class: u32,
+    pub below: u32,
+}
+
+// What shares are laid by: how many doses, classes and intervals; the instants that bound the intervals; W and P of each class; each dose's class.
+pub struct Tables {
+    pub doses: usize,
+    pub classes: usize,
+    pub intervals: usize,
+    pub instants: [u32; 48],
+    pub grams: [u32; 24],
+    pub time: [u32; 24],
+    pub class_of: [u8; 24],
+}
+
+// The first four bytes of a plan's record: its kind, a number in one byte and one in two.
+fn put_head(b: &mut [u8], at: usize, kind: u32, first: u32, second: u32)
+    requires { ⌜ at + 4 ≤ length (now b) ⌝ }
+    ensures { λ _. ⌜ now (b .exit) ≡ written (now (b .entry)) at (numberBytes 1 kind ++ (numberBytes 1 first ++ numberBytes 2 second)) ⌝ }
+{
+    field::put8(b, at, kind);
+    field::put8(b, at + 1, first);
+    field::put16(b, at + 2, second);
+}
+
+// Two numbers of four bytes each: a moment, or W and P.
+fn put_pair(b: &mut [u8], at: usize, first: u32, second: u32)
+    requires { ⌜ at + 8 ≤ length (now b) ⌝ }
+    ensures { λ _. ⌜ now (b .exit) ≡ written (now (b .entry)) at (numberBytes 4 first ++ numberBytes 4 second) ⌝ }
+{
+    field::put32(b, at, first);
+    field::put32(b, at + 4, second);
+}
+
+// Writes a C record at a place.
+pub fn put_class(b: &mut [u8], at: usize, c: Class)
+    requires { ⌜ at + 32 ≤ length (now b) ⌝ }
+    ensures { λ _. ⌜ now (b .exit) ≡ written (now (b .entry)) at (planRecordBytes (classRecord (asClass c))) ⌝ }
+{
+    put_head(b, at, 0x43, c.number, c.doses);
+    put_pair(b, at + 4, c.grams, c.time);
+    field::put_blank(b, at + 12, 20);
+}
+
+// Writes an S record at a place.
+pub fn put_slot(b: &mut [u8], at: usize, s: Slot)
+    requires { ⌜ at + 32 ≤ length (now b) ⌝ }
+    ensures { λ _. ⌜ now (b .exit) ≡ written (now (b .entry)) at (planRecordBytes (slotRecord (asSlot s))) ⌝ }
+{
+    put_head(b, at, 0x53, s.fan, s.dose);
+    put_pair(b, at + 4, s.start_tick, s.start_part);
+    put_pair(b, at + 12, s.end_tick, s.end_part);
+    put_pair(b, at + 20, s.grams, s.time);
+    field::put8(b, at + 28, s.class);
+    field::put_blank(b, at + 29, 3);
+}
+
+// The slot from unit low up to unit high of a fan's stretch: "A moment is a tick plus part/W, part below W."
+fn slot_of(l: Lane, dose: u32, fan: u64, low: u64, high: u64) -> Slot
+    requires { ⌜ Ready (asLane l) × (fan ≤ 9) × (low ≤ l .len * l .grams) × (high ≤ l .len * l .grams) ⌝ }
+    ensures { λ r. ⌜ asSlot r ≡ pieceSlot (asLane l) (record { fan = fan; dose = dose; low = low; high = high }) ⌝ }
+{
+    let w = l.grams as u64;
+    Slot {
+        fan: l.below + fan as u32 + 1,
+        dose,
+        start_tick: l.start + (low / w) as u32,
+        start_part: (low % w) as u32,
+        end_tick: l.start + (high / w) as u32,
+        end_part: (high % w) as u32,
+        grams: l.grams,
+        time: l.time,
+        class: l.class,
+    }
+}
+
+// The records of one share, x units laid from unit a of the line on: "A cut share gives two slots. No slot has length zero".
+// Gives back the next record's index.
+fn lay_share(b: &mut [u8], r: usize, l: Lane, dose: u32, a: u64, x: u64) -> usize
+    requires { ⌜ Room (asLane l) dose a x r (length (now b)) ⌝ }
+    ensures { λ q. ⌜ Wrote slotRecord (map (pieceSlot (asLane l)) (cut (l .len * l .grams) dose a x)) (now (b .entry)) r (now (b .exit)) q ⌝ }
+{
+    if x == 0 {
+        return r;
+    }
+    let c = (l.len as u64) * (l.grams as u64);
+    let fan = a / c;
+    let low = a % c;
+    if low + x <= c {
+        put_slot(b, 32 * r, slot_of(l, dose, fan, low, low + x));
+        return r + 1;
+    }
+    let next = r + 2;
+    put_slot(b, 32 * r, slot_of(l, dose, fan, low, c));
+    put_slot(b, 32 * r + 32, slot_of(l, dose, fan + 1, 0, low + x - c));
+    next
+}
+
+// The share of dose k in class i and interval j: none where the dose is of another class.
+fn share_of(t: Tables, shares: &[u64], i: usize, k: usize, j: usize) -> u64
+    requires { ⌜ (k < 24) × (j < 47) × (length (now shares) ≡ 1128) ⌝ }
+    ensures { λ r. ⌜ r ≡ shareAt t (now (shares .entry)) i k j ⌝ }
+{
+    if t.class_of[k] as usize == i {
+        return shares[k * 47 + j];
+    }
+    0
+}
+
+// The records of class i in interval j, from record r on: "laid end to end in dose order". Gives back the next record's index.
+fn lay_class(
+    b: &mut [u8],
+    r: usize,
+    l: Lane,
+    t: Tables,
+    shares: &[u64],
+    i: usize,
+    j: usize,
+) -> usize
+    requires { ⌜ Rooms (asLane l) (λ k. shareAt t (now shares) i k j) (t .doses) r (length (now b)) × (t .doses ≤ 24) × (j < 47) × (length (now shares) ≡ 1128) ⌝ }
+    ensures { λ q. ⌜ Wrote slotRecord (laneSlots (asLane l) (λ k. shareAt t (now (shares .entry)) i k j) (t .doses)) (now (b .entry)) r (now (b .exit)) q ⌝ }
+{
+    let mut at = r;
+    let mut a: u64 = 0;
+    let mut k = 0;
+    while k < t.doses {
+        let share = share_of(t, shares, i, k, j);
+        at = lay_share(b, at, l, k as u32, a, share);
+        a += share;
+        k += 1;
+    }
+    at
+}
+
+// Class i in interval j, above the fans below it.
+fn lane_of(t: Tables, i: usize, j: usize, below: u32) -> Lane
+    requires { ⌜ (i < 24) × (j < 47) × (getD (t .instants) j 0 ≤ getD (t .instants) (j + 1) 0) ⌝ }
+    ensures { λ r. ⌜ asLane r ≡ laneAt t i j below ⌝ }
+{
+    let start = t.instants[j];
+    Lane {
+        start,
+        len: t.instants[j + 1] - start,
+        grams: t.grams[i],
+        time: t.time[i],
+        class: i as u32 + 1,
+        below,
+    }
+}
+
+fn wide(x: u8) -> u32
+    ensures { λ r. ⌜ (r ≡ x) × (r < 256) ⌝ }
+{
+    x as u32
+}
+
+// The records of interval j: "class 1 takes the lowest fans, class 2 the next, and so on".
+fn lay_interval(
+    b: &mut [u8],
+    r: usize,
+    t: Tables,
+    shares: &[u64],
+    reserved: &[[u8; 47]; 24],
+    j: usize,
+) -> usize
+    requires { ⌜ Filled t (now shares) (now reserved) × (j < t .intervals) × (32 * (r + length (intervalSlots (tableFrom t (now shares) (now reserved)) j)) ≤ length (now b)) ⌝ }
+    ensures { λ q. ⌜ Wrote slotRecord (intervalSlots (tableFrom t (now (shares .entry)) (now (reserved .entry))) j) (now (b .entry)) r (now (b .exit)) q ⌝ }
+{
+    let mut at = r;
+    let mut below: u32 = 0;
+    let mut i = 0;
+    while i < t.classes {
+        at = lay_class(b, at, lane_of(t, i, j, below), t, shares, i, j);
+        below += wide(reserved[i][j]);
+        i += 1;
+    }
+    at
+}
+
+// The records of all intervals, from record r on: "slots by interval, fan, start". Gives back the next record's index.
+pub fn lay_all(
+    b: &mut [u8],
+    r: usize,
+    t: Tables,
+    shares: &[u64],
+    reserved: &[[u8; 47]; 24],
+) -> usize
+    requires { ⌜ Filled t (now shares) (now reserved) × (32 * (r + length (tableSlots (tableFrom t (now shares) (now reserved)))) ≤ length (now b)) ⌝ }
+    ensures { λ q. ⌜ Wrote slotRecord (tableSlots (tableFrom t (now (shares .entry)) (now (reserved .entry)))) (now (b .entry)) r (now (b .exit)) q ⌝ }
+{
+    let mut at = r;
+    let mut j = 0;
+    while j < t.intervals {
+        at = lay_interval(b, at, t, shares, reserved, j);
+        j += 1;
+    }
+    at
+}

@@ -1,0 +1,311 @@
+-- Answers are settled: refusals of an order, verdicts, points and pens are unique, and two plannings agree on all but the shares' choice.
+use mathlib.Core.Path.{_≡_, refl, sym, ap, ap₂, subst, fun-ext, _∙_}
+use mathlib.Core.Bool.{Bool, true, false, _&&_}
+use mathlib.Core.Logic.{_≢_, _⊎_, inl, inr}
+use mathlib.Core.List.{List, [], _∷_, _++_, map, append-assoc}
+use Prim.Native.Nat.{ℕ, zero, suc, _+_, _*_, _/_, _%_, _≤_, _<_, _^_}
+use native.Mathlib.Omega.{arith}
+use lib.Dec.{T, eqb, leb}
+use lib.ListN.{length, getD, drop}
+use Rattle.model.specs.Sets.{Doses}
+use Rattle.model.specs.Records.{Reading, read, refused, pick, andThen, readFrom, readAll, recordAt, fansParts, doseParts, blankAt}
+use Rattle.model.specs.Orders.{Order, Dose, Entry, fansEntry, doseEntry, fansOf, doseOf, fansFit, doseFits, checked, entryOf, fansIn, dosesIn, clashesAny, noClash, orderWith, orderOf, readOrder}
+use Rattle.model.specs.Lists.{gather}
+use Rattle.model.specs.Classes.{Setting, Row, P, Classes, free, reserved, classP}
+use Rattle.model.specs.Plans.{Class, Slot, classRecord, slotRecord, planOf, recordsBytes}
+use Rattle.model.specs.Layout.{Piece, Lane, cut, line, pieceSlot, laneSlots, lane, intervalSlots, tableSlots, tableOf, slotsOf, classAt, classesOf}
+use Rattle.model.specs.Intervals.{instantAt, settingOf, fansPresent}
+use Rattle.model.specs.Stands.{Stands}
+use Rattle.model.specs.Answers.{Answer, refusal, done, FirstClass, aboveTop, tooFast, Refuses, unread, above, Accepts, Planned, Plans, Judges, Drawn, noPoint, pointOf, Draws, Pen, Moves, planRoom, overwritten, planBytes}
+use Rattle.model.proofs.Sets.{Alike, weight-alike}
+use Rattle.model.proofs.Sums.{sum-congr}
+use Rattle.model.proofs.FanTime.{P-alike, openFans-alike}
+use Rattle.model.proofs.Lists.{length-singles}
+use Rattle.model.proofs.Plans.{records-append}
+use Rattle.model.proofs.NextClass.{next-unique}
+use Rattle.model.proofs.Sequence.{count-unique, classes-unique, free-alike}
+use Rattle.model.proofs.Orders.{no-refusal}
+
+-- ---- a refusal by reading has a number from 2 to 8
+
+-- an answer that refuses, if it does, with a number that is not 0
+abbrev Numbered : {A : Type 0} → Reading A → Type 0
+Numbered (read a) = Unit {0}
+Numbered (refused number place) = number ≢ 0
+
+pick-numbered : {A : Type 0} (b : Bool) (x y : Reading A) → Numbered x → Numbered y → Numbered (pick b x y)
+pick-numbered true x y p q = p
+pick-numbered false x y p q = q
+
+then-numbered : {A B : Type 0} (x : Reading A) (f : A → Reading B) → Numbered x → ((a : A) → Numbered (f a)) → Numbered (andThen x f)
+then-numbered (read a) f p q = q a
+then-numbered (refused number place) f p q = p
+
+all-numbered : {A : Type 0} (each : List ℕ → ℕ → Reading A) → ((r : List ℕ) (i : ℕ) → Numbered (each r i)) → (bytes : List ℕ) (i n : ℕ)
+    → Numbered (readFrom each bytes i n)
+unfolding readFrom
+all-numbered each h bytes i zero = tt
+all-numbered each h bytes i (suc n) =
+    let ih = all-numbered each h bytes (suc i) n in
+    then-numbered (each (recordAt bytes i) i) _ (h (recordAt bytes i) i) (λ a. then-numbered (readFrom each bytes (suc i) n) _ ih (λ l. tt))
+
+entry-numbered : (r : List ℕ) (i : ℕ) → Numbered (entryOf r i)
+unfolding entryOf
+entry-numbered r i =
+    pick-numbered (eqb (getD r 0 0) 0x46) _ _ (kind (blankAt fansParts r 0) (fansFit (fansOf r)) (fansEntry (fansOf r)))
+    (pick-numbered (eqb (getD r 0 0) 0x44) _ _ (kind (blankAt doseParts r 0) (doseFits (doseOf r)) (doseEntry (doseOf r))) (omega arith))
+  where
+    kind : (blank fits : Bool) (e : Entry) → Numbered (checked blank fits e i)
+    kind blank fits e = pick-numbered blank _ _ (pick-numbered fits _ _ tt (omega arith)) (omega arith)
+
+clash-numbered : (earlier : List Dose) (i : ℕ) (es : List Entry) → Numbered (noClash earlier i es)
+unfolding noClash
+clash-numbered earlier i [] = tt
+clash-numbered earlier i (fansEntry f ∷ es) = clash-numbered earlier (suc i) es
+clash-numbered earlier i (doseEntry d ∷ es) =
+    pick-numbered (clashesAny d earlier) (refused 8 i) _ (omega arith) (clash-numbered (earlier ++ d ∷ []) (suc i) es)
+
+order-numbered : (bytes : List ℕ) → Numbered (readOrder bytes)
+unfolding readOrder orderOf
+order-numbered bytes =
+    pick-numbered (eqb (length bytes % 32) 0 && leb (length bytes) 1600) _ _
+    (then-numbered (readAll entryOf bytes) orderOf (all-numbered entryOf entry-numbered bytes 0 (length bytes / 32)) (λ es.
+    pick-numbered (eqb (length (fansIn es)) 1) _ _
+    (pick-numbered (leb (length (dosesIn es)) 24) _ _ (then-numbered (noClash [] 0 es) _ (clash-numbered [] 0 es) (λ ds. tt)) (omega arith))
+    (omega arith))) (omega arith)
+
+-- a refusal by reading is not numbered 0
+pub unread-number : (order : List ℕ) (number place : ℕ) → readOrder order ≡ refused number place → number ≢ 0
+unread-number order number place e = subst (λ (r : Reading Order). Numbered r) e (order-numbered order)
+
+-- ---- the order's answer
+
+-- an order has one reading
+pub one-order : {order : List ℕ} {o o′ : Order} → Accepts order o → Accepts order o′ → o ≡ o′
+one-order {order} {o} {o′} a b = let e = a .reads in let f = b .reads in cc
+
+-- two first classes are one set, with one number, W and P
+first-one : (o : Order) (A B : Doses) → FirstClass o A → FirstClass o B → tooFast o A ≡ tooFast o B
+first-one o A B a b =
+    let same = next-unique (settingOf o) (fansPresent o) (λ k. true) A B a b in
+    let set = weight-alike (settingOf o .doses) (λ k. 2 ^ k) A B same in
+    let grams = weight-alike (settingOf o .doses) (settingOf o .grams) A B same in
+    let time = P-alike (settingOf o) (fansPresent o) A B same in
+    λ i. record { number = 9; place = 0; set = set i; grams = grams i; time = time i }
+
+-- an order is refused in one way
+pub refuses-one : {order : List ℕ} {a b : Answer} → Refuses order a → Refuses order b → a ≡ b
+refuses-one (unread number place e) (unread number′ place′ e′) =
+    let n : number ≡ number′ = cc in let p : place ≡ place′ = cc in ap₂ refusal n p
+refuses-one (unread number place e) (above o A f c t) = absurd (no-refusal number place o (sym e ∙ f))
+refuses-one (above o A f c t) (unread number place e) = absurd (no-refusal number place o (sym e ∙ f))
+refuses-one {order} (above o A f c t) (above o′ A′ f′ c′ t′) =
+    let same : o′ ≡ o = cc in
+    first-one o A A′ c (subst (λ (o : Order). FirstClass o A′) same c′) ∙ ap (λ (o : Order). tooFast o A′) (sym same)
+
+-- never with 0
+pub refuses-number : {order : List ℕ} {a : Answer} → Refuses order a → a .number ≢ 0
+refuses-number {order} (unread number place e) = unread-number order number place e
+refuses-number (above o A f c t) = omega arith
+
+-- and no order is refused and accepted
+pub refused-not-accepted : {order : List ℕ} {a : Answer} {o : Order} → Refuses order a → Accepts order o → ⊥
+refused-not-accepted {order} {a} {o} (unread number place e) g = no-refusal number place o (sym e ∙ g .reads)
+refused-not-accepted {order} {a} {o} (above o′ A f c t) g =
+    let r = g .reads in
+    let same : o′ ≡ o = cc in
+    g .slow A (subst (λ (o : Order). FirstClass o A) same c) (subst (λ (o : Order). T (aboveTop o A)) same t)
+
+-- ---- verdicts
+
+-- plan bytes get one verdict
+pub judges-one : {order plan : List ℕ} {a b : Answer} → Judges order plan a → Judges order plan b → a ≡ b
+judges-one (Judges.refuses a r) (Judges.refuses b s) = refuses-one r s
+judges-one (Judges.refuses a r) (Judges.falls o g h) = absurd (refused-not-accepted r g)
+judges-one (Judges.refuses a r) (Judges.stands o g h) = absurd (refused-not-accepted r g)
+judges-one (Judges.falls o g h) (Judges.refuses b s) = absurd (refused-not-accepted s g)
+judges-one (Judges.falls o g h) (Judges.falls o′ g′ h′) = refl
+judges-one {order} {plan} (Judges.falls o g h) (Judges.stands o′ g′ h′) = absurd (h (subst (λ (o : Order). Stands o plan) (one-order g′ g) h′))
+judges-one (Judges.stands o g h) (Judges.refuses b s) = absurd (refused-not-accepted s g)
+judges-one {order} {plan} (Judges.stands o g h) (Judges.falls o′ g′ h′) = absurd (h′ (subst (λ (o : Order). Stands o plan) (one-order g g′) h))
+judges-one (Judges.stands o g h) (Judges.stands o′ g′ h′) = refl
+
+-- ---- points and pens
+
+-- a plan that stands is not refused
+stands-refused : {order plan : List ℕ} {a : Answer} {o : Order} → Judges order plan a → a .number ≢ 0 → Accepts order o → Stands o plan → ⊥
+stands-refused {o = o} j n g h = n (ap (λ (a : Answer). a .number) (judges-one j (Judges.stands o g h)))
+
+-- one order, one count of doses
+one-count : {order : List ℕ} {o o′ : Order} → Accepts order o → Accepts order o′ → settingOf o .doses ≡ settingOf o′ .doses
+one-count g g′ = ap (λ (o : Order). settingOf o .doses) (one-order g g′)
+
+-- a dose at a tick has one point
+pub draws-one : {order plan : List ℕ} {d t : ℕ} {a b : Drawn} → Draws order plan d t a → Draws order plan d t b → a ≡ b
+draws-one (Draws.refuses a j n) (Draws.refuses b k m) = ap noPoint (judges-one j k)
+draws-one (Draws.refuses a j n) (Draws.no-dose o g h l) = absurd (stands-refused j n g h)
+draws-one (Draws.refuses a j n) (Draws.too-late o g h l w) = absurd (stands-refused j n g h)
+draws-one (Draws.refuses a j n) (Draws.draws o g h l w) = absurd (stands-refused j n g h)
+draws-one (Draws.no-dose o g h l) (Draws.refuses b k m) = absurd (stands-refused k m g h)
+draws-one (Draws.no-dose o g h l) (Draws.no-dose o′ g′ h′ l′) = refl
+draws-one (Draws.no-dose o g h l) (Draws.too-late o′ g′ h′ l′ w′) = absurd (omega (arith, one-count g g′))
+draws-one (Draws.no-dose o g h l) (Draws.draws o′ g′ h′ l′ w′) = absurd (omega (arith, one-count g g′))
+draws-one (Draws.too-late o g h l w) (Draws.refuses b k m) = absurd (stands-refused k m g h)
+draws-one (Draws.too-late o g h l w) (Draws.no-dose o′ g′ h′ l′) = absurd (omega (arith, one-count g g′))
+draws-one (Draws.too-late o g h l w) (Draws.too-late o′ g′ h′ l′ w′) = refl
+draws-one (Draws.too-late o g h l w) (Draws.draws o′ g′ h′ l′ w′) = absurd (omega arith)
+draws-one (Draws.draws o g h l w) (Draws.refuses b k m) = absurd (stands-refused k m g h)
+draws-one (Draws.draws o g h l w) (Draws.no-dose o′ g′ h′ l′) = absurd (omega (arith, one-count g g′))
+draws-one (Draws.draws o g h l w) (Draws.too-late o′ g′ h′ l′ w′) = absurd (omega arith)
+draws-one {order} {plan} {d} {t} (Draws.draws o g h l w) (Draws.draws o′ g′ h′ l′ w′) = ap (λ (o : Order). pointOf o plan d t) (one-order g g′)
+
+-- a pen moves in one way
+pub moves-one : {order plan : List ℕ} {pen : Pen} {a b : Drawn} {to to′ : Pen} → Moves order plan pen a to → Moves order plan pen b to′ → (a ≡ b) × (to ≡ to′)
+moves-one (Moves.refuses a j n) (Moves.refuses b k m) = (ap noPoint (judges-one j k), refl)
+moves-one (Moves.refuses a j n) (Moves.no-dose o g h l) = absurd (stands-refused j n g h)
+moves-one (Moves.refuses a j n) (Moves.at-end o g h l w) = absurd (stands-refused j n g h)
+moves-one (Moves.refuses a j n) (Moves.moves o g h l w) = absurd (stands-refused j n g h)
+moves-one (Moves.no-dose o g h l) (Moves.refuses b k m) = absurd (stands-refused k m g h)
+moves-one (Moves.no-dose o g h l) (Moves.no-dose o′ g′ h′ l′) = (refl, refl)
+moves-one (Moves.no-dose o g h l) (Moves.at-end o′ g′ h′ l′ w′) = absurd (omega (arith, one-count g g′))
+moves-one (Moves.no-dose o g h l) (Moves.moves o′ g′ h′ l′ w′) = absurd (omega (arith, one-count g g′))
+moves-one (Moves.at-end o g h l w) (Moves.refuses b k m) = absurd (stands-refused k m g h)
+moves-one (Moves.at-end o g h l w) (Moves.no-dose o′ g′ h′ l′) = absurd (omega (arith, one-count g g′))
+moves-one (Moves.at-end o g h l w) (Moves.at-end o′ g′ h′ l′ w′) = (refl, refl)
+moves-one (Moves.at-end o g h l w) (Moves.moves o′ g′ h′ l′ w′) = absurd (omega arith)
+moves-one (Moves.moves o g h l w) (Moves.refuses b k m) = absurd (stands-refused k m g h)
+moves-one (Moves.moves o g h l w) (Moves.no-dose o′ g′ h′ l′) = absurd (omega (arith, one-count g g′))
+moves-one (Moves.moves o g h l w) (Moves.at-end o′ g′ h′ l′ w′) = absurd (omega arith)
+moves-one {order} {plan} {pen} (Moves.moves o g h l w) (Moves.moves o′ g′ h′ l′ w′) =
+    (ap (λ (o : Order). pointOf o plan (pen .dose) (pen .tick + 1)) (one-order g g′), refl)
+
+-- ---- plans
+
+gather-congr : {A : Type 0} (n : ℕ) (f g : ℕ → List A) → ((k : ℕ) → k < n → f k ≡ g k) → gather n f ≡ gather n g
+unfolding gather
+gather-congr zero f g h = refl
+gather-congr (suc n) f g h = ap₂ (λ x y. x ++ y) (gather-congr n f g (λ k l. h k (omega arith))) (h n (omega arith))
+
+-- shares that agree give one line
+line-congr : (L n : ℕ) (x y : ℕ → ℕ) → ((k : ℕ) → k < n → x k ≡ y k) → line L x n ≡ line L y n
+unfolding line
+line-congr L n x y h = gather-congr n _ _ (λ k l. ap₂ (λ (a b : ℕ). cut L k a b) (sum-congr k (λ i q. h i (omega arith))) (h k l))
+
+module _ (o : Order) (p : ℕ) (C C′ : ℕ → Doses) (c : Classes (settingOf o) (fansPresent o) p C) (c′ : Classes (settingOf o) (fansPresent o) p C′) where
+  abbrev S : Setting
+  S = settingOf o
+
+  same-set : (i : ℕ) → i < p → Alike (S .doses) (C i) (C′ i)
+  same-set i l = classes-unique S (fansPresent o) p p C C′ c c′ i l l
+
+  same-free : (i : ℕ) → i < p → (j : ℕ) → free S (fansPresent o) C i j ≡ free S (fansPresent o) C′ i j
+  same-free i l = free-alike S (fansPresent o) C C′ i (λ h q. same-set h (omega arith))
+
+  same-reserved : (i : ℕ) → i < p → (j : ℕ) → reserved S (fansPresent o) C i j ≡ reserved S (fansPresent o) C′ i j
+  same-reserved i l j = openFans-alike S _ _ (C i) (C′ i) j (same-free i l j) (same-set i l)
+
+  same-time : (i : ℕ) → i < p → classP S (fansPresent o) C i ≡ classP S (fansPresent o) C′ i
+  same-time i l =
+      P-alike S (free S (fansPresent o) C i) (C i) (C′ i) (same-set i l) ∙ ap (λ (row : Row). P S row (C′ i)) (fun-ext (same-free i l))
+
+  same-class : (i : ℕ) → i < p → classAt o p C i ≡ classAt o p C′ i
+  same-class i l =
+      let doses = weight-alike (S .doses) (λ k. 1) (C i) (C′ i) (same-set i l) in
+      let grams = weight-alike (S .doses) (S .grams) (C i) (C′ i) (same-set i l) in
+      let time = same-time i l in
+      λ t. record { number = i + 1; doses = doses t; grams = grams t; time = time t }
+
+  -- the C records of an order are settled
+  pub classes-settled : classesOf o p C ≡ classesOf o p C′
+  classes-settled = gather-congr p _ _ (λ i l. ap (λ (k : Class). k ∷ []) (same-class i l))
+
+  -- and where the shares are the same, so are the slots
+  module _ (x x′ : ℕ → ℕ → ℕ → ℕ) (same : (i k j : ℕ) → i < p → k < S .doses → j < S .intervals → x i k j ≡ x′ i k j) where
+    same-lane : (i j : ℕ) → i < p → lane (tableOf o p C x) i j ≡ lane (tableOf o p C′ x′) i j
+    same-lane i j l =
+        let grams = weight-alike (S .doses) (S .grams) (C i) (C′ i) (same-set i l) in
+        let time = same-time i l in
+        let below = sum-congr i (λ h q. same-reserved h (omega arith) j) in
+        λ t. record { start = instantAt o j; len = S .len j; grams = grams t; time = time t; class = i + 1; below = below t }
+
+    same-slots : slotsOf o p C x ≡ slotsOf o p C′ x′
+    unfolding tableSlots intervalSlots laneSlots
+    same-slots =
+        gather-congr (S .intervals) _ _ (λ j q. gather-congr p _ _ (λ i l.
+        ap₂ (λ (w : Lane) (m : List Piece). map (pieceSlot w) m) (same-lane i j l)
+        (line-congr _ (S .doses) (λ k. x i k j) (λ k. x′ i k j) (λ k r. same i k j l r q)
+        ∙ ap (λ (w : Lane). line (w .len * w .grams) (λ k. x′ i k j) (S .doses)) (same-lane i j l))))
+
+    pub plan-settled : planBytes o p C x ≡ planBytes o p C′ x′
+    plan-settled = ap₂ (λ (l : List Class) (m : List Slot). recordsBytes (planOf l m)) classes-settled same-slots
+
+-- two plannings of an order into one buffer agree on the answer, the classes and their records, which stand in front
+pub record Agree (before : List ℕ) (r r′ : Planned) (after after′ : List ℕ) : Type 0 where
+  pub answer : r .answer ≡ r′ .answer
+  pub classes : r .classes ≡ r′ .classes
+  pub front : List Class
+  pub counted : length front ≡ r .classes
+  pub rest : List ℕ
+  pub rest′ : List ℕ
+  pub behind : after ≡ recordsBytes (map classRecord front) ++ rest
+  pub behind′ : after′ ≡ recordsBytes (map classRecord front) ++ rest′
+  -- where nothing was planned, the buffer is as it was
+  pub kept : r .answer .number ≢ 0 → (after ≡ before) × (after′ ≡ before)
+
+-- nothing was planned
+both-kept : (before : List ℕ) (a a′ : Answer) → a ≡ a′
+    → Agree before (record { answer = a; classes = 0; slots = 0 }) (record { answer = a′; classes = 0; slots = 0 }) before before
+unfolding recordsBytes
+both-kept before a a′ e = record {
+  answer = e;
+  classes = refl;
+  front = [];
+  counted = refl;
+  rest = before;
+  rest′ = before;
+  behind = refl;
+  behind′ = refl;
+  kept = λ n. (refl, refl);
+}
+
+-- the S records, and the rest of the buffer
+abbrev back : List ℕ → List Class → List Slot → List ℕ
+back before classes slots = recordsBytes (map slotRecord slots) ++ drop (length (recordsBytes (planOf classes slots))) before
+
+-- a plan is its C records and what is behind them
+in-front : (before : List ℕ) (classes : List Class) (slots : List Slot)
+    → overwritten before (recordsBytes (planOf classes slots)) ≡ recordsBytes (map classRecord classes) ++ back before classes slots
+in-front before classes slots =
+    ap (λ (b : List ℕ). b ++ drop (length (recordsBytes (planOf classes slots))) before) (records-append (map classRecord classes) (map slotRecord slots))
+    ∙ append-assoc (recordsBytes (map classRecord classes)) (recordsBytes (map slotRecord slots)) _
+
+-- "Two answers allowed by a promise" of planning agree so
+pub plans-agree : {order before : List ℕ} {r r′ : Planned} {after after′ : List ℕ} → Plans order before r after → Plans order before r′ after′
+    → Agree before r r′ after after′
+plans-agree {before = before} (Plans.no-room s) (Plans.no-room s′) = both-kept before (refusal 1 0) (refusal 1 0) refl
+plans-agree (Plans.no-room s) (Plans.refuses w b q) = absurd (omega arith)
+plans-agree (Plans.no-room s) (Plans.plans w o g p C c x v) = absurd (omega arith)
+plans-agree (Plans.refuses w a q) (Plans.no-room s) = absurd (omega arith)
+plans-agree {before = before} (Plans.refuses w a q) (Plans.refuses w′ b q′) = both-kept before a b (refuses-one q q′)
+plans-agree (Plans.refuses w a q) (Plans.plans w′ o g p C c x v) = absurd (refused-not-accepted q g)
+plans-agree (Plans.plans w o g p C c x v) (Plans.no-room s) = absurd (omega arith)
+plans-agree (Plans.plans w o g p C c x v) (Plans.refuses w′ b q) = absurd (refused-not-accepted q g)
+plans-agree {before = before} (Plans.plans w o g p C c x v) (Plans.plans w′ o′ g′ p′ C′ c′ x′ v′) =
+    let same-o = one-order g′ g in
+    let c″ : Classes (settingOf o) (fansPresent o) p′ C′ = subst (λ (o : Order). Classes (settingOf o) (fansPresent o) p′ C′) same-o c′ in
+    let same-p = count-unique (settingOf o) (fansPresent o) p p′ C C′ c c″ in
+    let c‴ : Classes (settingOf o) (fansPresent o) p C′ = subst (λ (p : ℕ). Classes (settingOf o) (fansPresent o) p C′) (sym same-p) c″ in
+    let front : classesOf o′ p′ C′ ≡ classesOf o p C =
+    ap₂ (λ (o : Order) (p : ℕ). classesOf o p C′) same-o (sym same-p) ∙ sym (classes-settled o p C C′ c c‴) in
+    record {
+      answer = refl;
+      classes = same-p;
+      front = classesOf o p C;
+      counted = length-singles p (classAt o p C);
+      rest = back before (classesOf o p C) (slotsOf o p C x);
+      rest′ = back before (classesOf o′ p′ C′) (slotsOf o′ p′ C′ x′);
+      behind = in-front before (classesOf o p C) (slotsOf o p C x);
+      behind′ = in-front before (classesOf o′ p′ C′) (slotsOf o′ p′ C′ x′)
+          ∙ ap (λ (l : List Class). recordsBytes (map classRecord l) ++ back before (classesOf o′ p′ C′) (slotsOf o′ p′ C′ x′)) front;
+      kept = λ n. absurd (n refl);
+    }

@@ -1,0 +1,47 @@
+use mathlib.Core.Path.{ap, _∙_}
+use Rattle.model.specs.Orders.{doseFits}
+use Rattle.order.specs.declared.Entry.the-variants as is
+use Rattle.order.specs.declared.Dose.{Dose}
+use Rattle.order.specs.Held.{asDose, heldEntry}
+use Rattle.order.proofs.Takes.{fault-of, faulty, faultless}
+use borrow.Author.Needs.{needs}
+use Rattle.order.proofs.record.dose_entry.Statement.{statement}
+use Rattle.order.proofs.record.dose_entry.Tie as tie
+use Rattle.order.proofs.record.dose_entry.Reads as reads
+use Rattle.order.proofs.record.dose_entry.Lts as lts
+use Rattle.order.proofs.record.dose_blank.Reads as dose-blank-reads
+use Rattle.order.proofs.record.dose_fits.Reads as dose-fits-reads
+use Rattle.order.proofs.record.dose_in.Reads as dose-in-reads
+use Rattle.order.proofs.record.fault.Reads as fault-reads
+
+dose-in-requires : tie.Need-dose-in-requires
+dose-in-requires c κs = search needs
+
+dose-blank-requires : tie.Need-dose-blank-requires
+dose-blank-requires c κs = search needs
+
+dose-fits-requires : tie.Need-dose-fits-requires
+dose-fits-requires c κs = search needs
+
+fault-requires : tie.Need-fault-requires
+fault-requires c κs = search needs
+
+returns : tie.Need-returns
+returns c = faulty _ _ _ _ (fault-of (c .before .fault .ensures) (c .before .before .before .dose-blank .ensures) (c .before .before .dose-fits .ensures ∙ ap (λ (x : Dose). doseFits (asDose x)) (c .before .before .before .before .dose-in .ensures))) (c .if1 .taken)
+
+returns-2 : tie.Need-returns-2
+unfolding heldEntry
+returns-2 c =
+    ap is.Dose (c .before .before .before .before .dose-in .ensures)
+    ∙ faultless _ _ _ _ (fault-of (c .before .fault .ensures) (c .before .before .before .dose-blank .ensures) (c .before .before .dose-fits .ensures ∙ ap (λ (x : Dose). doseFits (asDose x)) (c .before .before .before .before .dose-in .ensures))) (c .if1 .left)
+
+pub dose-entry-spec : {M : Type 1} → statement M
+dose-entry-spec =
+    tie.close
+    (tie.spec
+    dose-in-requires
+    dose-blank-requires
+    dose-fits-requires
+    fault-requires
+    returns
+    returns-2)

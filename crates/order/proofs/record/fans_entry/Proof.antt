@@ -1,0 +1,47 @@
+use mathlib.Core.Path.{ap, _∙_}
+use Rattle.model.specs.Orders.{fansFit}
+use Rattle.order.specs.declared.Entry.the-variants as is
+use Rattle.order.specs.declared.Fans.{Fans}
+use Rattle.order.specs.Held.{asFans, heldEntry}
+use Rattle.order.proofs.Takes.{fault-of, faulty, faultless}
+use borrow.Author.Needs.{needs}
+use Rattle.order.proofs.record.fans_entry.Statement.{statement}
+use Rattle.order.proofs.record.fans_entry.Tie as tie
+use Rattle.order.proofs.record.fans_entry.Reads as reads
+use Rattle.order.proofs.record.fans_entry.Lts as lts
+use Rattle.order.proofs.record.fans_blank.Reads as fans-blank-reads
+use Rattle.order.proofs.record.fans_fit.Reads as fans-fit-reads
+use Rattle.order.proofs.record.fans_in.Reads as fans-in-reads
+use Rattle.order.proofs.record.fault.Reads as fault-reads
+
+fans-in-requires : tie.Need-fans-in-requires
+fans-in-requires c κs = search needs
+
+fans-blank-requires : tie.Need-fans-blank-requires
+fans-blank-requires c κs = search needs
+
+fans-fit-requires : tie.Need-fans-fit-requires
+fans-fit-requires c κs = search needs
+
+fault-requires : tie.Need-fault-requires
+fault-requires c κs = search needs
+
+returns : tie.Need-returns
+returns c = faulty _ _ _ _ (fault-of (c .before .fault .ensures) (c .before .before .before .fans-blank .ensures) (c .before .before .fans-fit .ensures ∙ ap (λ (x : Fans). fansFit (asFans x)) (c .before .before .before .before .fans-in .ensures))) (c .if1 .taken)
+
+returns-2 : tie.Need-returns-2
+unfolding heldEntry
+returns-2 c =
+    ap is.Fans (c .before .before .before .before .fans-in .ensures)
+    ∙ faultless _ _ _ _ (fault-of (c .before .fault .ensures) (c .before .before .before .fans-blank .ensures) (c .before .before .fans-fit .ensures ∙ ap (λ (x : Fans). fansFit (asFans x)) (c .before .before .before .before .fans-in .ensures))) (c .if1 .left)
+
+pub fans-entry-spec : {M : Type 1} → statement M
+fans-entry-spec =
+    tie.close
+    (tie.spec
+    fans-in-requires
+    fans-blank-requires
+    fans-fit-requires
+    fault-requires
+    returns
+    returns-2)

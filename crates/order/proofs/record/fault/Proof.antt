@@ -1,0 +1,23 @@
+use mathlib.Core.Path.{refl, sym}
+use Prim.Native.Nat.{ℕ}
+use borrow.Author.Tests.{not-true, not-false}
+use Rattle.order.specs.Sheets.{faultOf}
+use Rattle.order.proofs.record.fault.Statement.{statement}
+use Rattle.order.proofs.record.fault.Tie as tie
+use Rattle.order.proofs.record.fault.Reads as reads
+use Rattle.order.proofs.record.fault.Lts as lts
+
+returns : tie.Need-returns
+unfolding faultOf
+returns c = simp (not-true (c .before .args .blank) (c .if1 .taken))
+
+returns-2 : tie.Need-returns-2
+unfolding faultOf
+returns-2 c = simp (not-false (c .before .before .args .blank) (c .before .if1 .left), not-true (c .before .before .args .fits) (c .if2 .taken))
+
+returns-3 : tie.Need-returns-3
+unfolding faultOf
+returns-3 c = simp (not-false (c .before .before .args .blank) (c .before .if1 .left), not-false (c .before .before .args .fits) (c .if2 .left))
+
+pub fault-spec : {M : Type 1} → statement M
+fault-spec = tie.close (tie.spec returns returns-2 returns-3)

@@ -1,0 +1,149 @@
+// One record from its 32 bytes (document 01, "Records" and refusals 3, 4, 5).
+use crate::Dose;
+use crate::Entry;
+use crate::Fans;
+use crate::Refusal;
+ghost use mathlib.Core.Path.{_≡_};
+ghost use lib.ListN.{length};
+ghost use Rattle.model.specs.Records.{within, blankAt, fansParts, doseParts};
+ghost use Rattle.model.specs.Orders.{fansFit, doseFits, fansOf, doseOf, entryOf};
+ghost use Rattle.order.specs.Held.{asFans, asDose, heldFans, heldDose, heldEntry};
+ghost use Rattle.order.specs.Sheets.{faultOf, fansEntered, doseEntered};
+
+fn inside(lo: u32, hi: u32, v: u32) -> bool
+    ensures { λ r. ⌜ r ≡ within lo hi v ⌝ }
+{
+    lo <= v && v <= hi
+}
+
+fn fans_fit(f: Fans) -> bool
+    ensures { λ r. ⌜ r ≡ fansFit (asFans f) ⌝ }
+{
+    if !inside(1, 8, f.fans) {
+        return false;
+    }
+    if !inside(1, 1000000, f.top_grams) {
+        return false;
+    }
+    inside(1, 1000000, f.top_seconds)
+}
+
+// The release is checked before it is raised by one, so that no sum wraps.
+fn dose_fits(d: Dose) -> bool
+    ensures { λ r. ⌜ r ≡ doseFits (asDose d) ⌝ }
+{
+    if !inside(1, 999, d.bay) {
+        return false;
+    }
+    if 604799 < d.release {
+        return false;
+    }
+    if !inside(d.release + 1, 604800, d.deadline) {
+        return false;
+    }
+    inside(1, 1000000, d.grams)
+}
+
+fn fans_blank(r: &[u8]) -> bool
+    requires { ⌜ length (now r) ≡ 32 ⌝ }
+    ensures { λ t. ⌜ t ≡ blankAt fansParts (now (r .entry)) 0 ⌝ }
+{
+    if !field::blank(r, 2, 2) {
+        return false;
+    }
+    field::blank(r, 12, 20)
+}
+
+fn dose_blank(r: &[u8]) -> bool
+    requires { ⌜ length (now r) ≡ 32 ⌝ }
+    ensures { λ t. ⌜ t ≡ blankAt doseParts (now (r .entry)) 0 ⌝ }
+{
+    if !field::blank(r, 1, 1) {
+        return false;
+    }
+    field::blank(r, 16, 16)
+}
+
+fn fans_in(r: &[u8]) -> Fans
+    requires { ⌜ length (now r) ≡ 32 ⌝ }
+    ensures { λ f. ⌜ f ≡ heldFans (fansOf (now (r .entry))) ⌝ }
+{
+    Fans {
+        fans: field::read8(r, 1),
+        top_grams: field::read32(r, 4),
+        top_seconds: field::read32(r, 8),
+    }
+}
+
+fn dose_in(r: &[u8]) -> Dose
+    requires { ⌜ length (now r) ≡ 32 ⌝ }
+    ensures { λ d. ⌜ d ≡ heldDose (doseOf (now (r .entry))) ⌝ }
+{
+    Dose {
+        bay: field::read16(r, 2),
+        release: field::read32(r, 4),
+        deadline: field::read32(r, 8),
+        grams: field::read32(r, 12),
+    }
+}
+
+// "4 a byte that must be zero isn't", then "5 a field out of range"; 0 where neither is.
+fn fault(blank: bool, fits: bool) -> u32
+    ensures { λ n. ⌜ n ≡ faultOf blank fits ⌝ }
+{
+    if !blank {
+        return 4;
+    }
+    if !fits {
+        return 5;
+    }
+    0
+}
+
+fn fans_entry(r: &[u8], k: usize) -> Entry
+    requires { ⌜ length (now r) ≡ 32 ⌝ }
+    ensures { λ e. ⌜ e ≡ fansEntered (now (r .entry)) k ⌝ }
+{
+    let f = fans_in(r);
+    let n = fault(fans_blank(r), fans_fit(f));
+    if n != 0 {
+        return Entry::Refused(Refusal {
+            number: n,
+            place: k,
+        });
+    }
+    Entry::Fans(f)
+}
+
+fn dose_entry(r: &[u8], k: usize) -> Entry
+    requires { ⌜ length (now r) ≡ 32 ⌝ }
+    ensures { λ e. ⌜ e ≡ doseEntered (now (r .entry)) k ⌝ }
+{
+    let d = dose_in(r);
+    let n = fault(dose_blank(r), dose_fits(d));
+    if n != 0 {
+        return Entry::Refused(Refusal {
+            number: n,
+            place: k,
+        });
+    }
+    Entry::Dose(d)
+}
+
+// Record k from its 32 bytes: "record by record 3, 4, 5 in that order".
+pub fn record_at(r: &[u8], k: usize) -> Entry
+    requires { ⌜ length (now r) ≡ 32 ⌝ }
+    ensures { λ e. ⌜ e ≡ heldEntry (entryOf (now (r .entry)) k) ⌝ }
+{
+    let kind = r[0];
+    if kind == 0x46 {
+        return fans_entry(r, k);
+    }
+    if kind == 0x44 {
+        return dose_entry(r, k);
+    }
+    Entry::Refused(Refusal {
+        number: 3,
+        place: k,
+    })
+}

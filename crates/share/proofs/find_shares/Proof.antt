@@ -1,0 +1,70 @@
+use Prim.Native.Nat.{_≤_, _-_}
+use mathlib.Core.Path.{_≡_}
+use lib.ListN.{length}
+use native.Mathlib.Omega.{arith}
+use borrow.Author.Needs.{needs}
+use Rattle.share.specs.Share.{Within}
+use Rattle.share.proofs.Laws.{within-none}
+use Rattle.share.proofs.find_shares.Statement.{statement}
+use Rattle.share.proofs.find_shares.Tie as tie
+
+abbrev Inv-loop : tie.InvT-loop
+Inv-loop x₀ rooms holds needs order i₀ x i = (i ≤ 24) × (length x ≡ 1128) × Within rooms holds needs x
+
+abbrev μ-loop : tie.MeasureT-loop
+μ-loop x₀ rooms holds needs order i₀ x i = 24 - i
+
+clear-requires : tie.Need-clear-requires Inv-loop μ-loop
+clear-requires c κs = c .before .before .before .before .before .pre .0 .shares
+
+loop-holds : tie.Need-loop-holds Inv-loop μ-loop
+loop-holds c = (omega arith, (search needs), within-none (c .before .before .clear .ensures))
+
+mul-d : tie.Need-mul-d Inv-loop μ-loop
+mul-d c = search needs
+
+array-read-d : tie.Need-array-read-d Inv-loop μ-loop
+array-read-d c = search needs
+
+first-shares-requires : tie.Need-first-shares-requires Inv-loop μ-loop
+first-shares-requires c κs = (record { shares = c .before .before .loop .inv .1; rooms = c .before .before .before .before .before .before .before .before .before .before .before .pre .0 .rooms; holds = c .before .before .before .before .before .before .before .before .before .before .before .pre .0 .holds }, c .before .before .loop .inv .2, c .before .before .before .before .before .before .before .before .before .before .before .pre .1)
+
+add-i : tie.Need-add-i Inv-loop μ-loop
+add-i c = search needs
+
+loop-less : tie.Need-loop-less Inv-loop μ-loop
+loop-less c = search needs
+
+loop-again : tie.Need-loop-again Inv-loop μ-loop
+loop-again c = (omega arith, (search needs), c .before .before .first-shares .ensures)
+
+largest-need-requires : tie.Need-largest-need-requires Inv-loop μ-loop
+largest-need-requires c κs = search needs
+
+raise-requires : tie.Need-raise-requires Inv-loop μ-loop
+raise-requires c κs = (record { shares = c .before .before .before .loop .inv .1; rooms = c .before .before .before .before .before .before .before .before .before .before .before .before .pre .0 .rooms; holds = c .before .before .before .before .before .before .before .before .before .before .before .before .pre .0 .holds }, c .before .before .before .loop .inv .2, c .before .before .before .before .before .before .before .before .before .before .before .before .pre .1, omega arith)
+
+same-length : tie.Need-same-length Inv-loop μ-loop
+same-length c = omega arith
+
+returns : tie.Need-returns Inv-loop μ-loop
+returns c = c .before .before .raise .ensures
+
+pub find-shares-spec : {M : Type 1} → statement M
+find-shares-spec =
+    tie.close
+    (tie.spec
+    Inv-loop
+    μ-loop
+    clear-requires
+    loop-holds
+    mul-d
+    array-read-d
+    first-shares-requires
+    add-i
+    loop-less
+    loop-again
+    largest-need-requires
+    raise-requires
+    same-length
+    returns)

@@ -1,0 +1,161 @@
+//! The second program's own four entry points, and its own plan for an order.
+
+use crate::classes::{self, Class};
+use crate::intervals::Intervals;
+use crate::layout::{plan_bytes, wrap, Slot};
+use crate::library::{Drawn, Judged, Peer, Planned, DOSING, FINISHED, IDLE, SHUT};
+use crate::line::{point, Point, State};
+use crate::orders::{read, Order, RECORD, WEEK};
+use crate::random::Random;
+use crate::shares::{shares, Shares};
+use crate::stands::stands;
+
+pub const PLAN_BUFFER: usize = 47_392;
+
+/// An accepted order with its intervals and classes.
+pub struct House {
+    pub order: Order,
+    pub spans: Intervals,
+    pub classes: Vec<Class>,
+}
+
+/// A way to find all classes of an order.
+type Finder = fn(&Order, &Intervals) -> Vec<Class>;
+
+/// Refusals 2 to 9.
+pub fn accept(bytes: &[u8]) -> Result<House, Judged> {
+    accept_by(bytes, classes::all)
+}
+
+fn accept_by(bytes: &[u8], find: Finder) -> Result<House, Judged> {
+    let order = read(bytes).map_err(|r| Judged { number: r.number, place: r.place, ..Judged::default() })?;
+    let spans = Intervals::of(&order);
+    let classes = find(&order, &spans);
+    match classes.first() {
+        Some(c) if classes::too_fast(&order, c) => {
+            Err(Judged { number: 9, place: 0, set: c.set, grams: c.grams as u32, time: c.time as u32 })
+        }
+        _ => Ok(House { order, spans, classes }),
+    }
+}
+
+impl House {
+    /// Valid shares for every class, other ones by chance, and the chains pushed.
+    pub fn shares(&self, mut chance: Option<&mut Random>) -> (Vec<Shares>, u64) {
+        let mut chains = 0;
+        let mut all = Vec::new();
+        for c in &self.classes {
+            let (found, n) = shares(&self.order, &self.spans, c, chance.as_deref_mut());
+            all.push(found.expect("a class has shares that meet its needs"));
+            chains += n;
+        }
+        (all, chains)
+    }
+
+    pub fn slots(&self, chance: Option<&mut Random>) -> Vec<Slot> {
+        wrap(&self.spans, &self.classes, &self.shares(chance).0)
+    }
+
+    pub fn plan(&self, chance: Option<&mut Random>) -> Vec<u8> {
+        plan_bytes(&self.classes, &self.slots(chance))
+    }
+
+    pub fn stands(&self, plan: &[u8]) -> Result<Vec<Slot>, &'static str> {
+        stands(&self.order, &self.spans, &self.classes, plan)
+    }
+
+    pub fn point(&self, slots: &[Slot], dose: usize, tick: u32) -> Point {
+        point(&self.order, &self.classes, slots, dose, tick)
+    }
+
+    /// What drawing answers once the plan stands.
+    pub fn draw(&self, slots: &[Slot], dose: usize, tick: u32) -> Drawn {
+        if dose >= self.order.doses.len() {
+            return refused(11);
+        }
+        if tick > WEEK {
+            return refused(12);
+        }
+        drawn(self.point(slots, dose, tick))
+    }
+
+    /// What moving a pen answers once the plan stands; a refusal leaves the pen.
+    pub fn step(&self, slots: &[Slot], dose: &mut usize, tick: &mut u32) -> Drawn {
+        if *dose >= self.order.doses.len() {
+            return refused(11);
+        }
+        if *tick >= WEEK {
+            return refused(12);
+        }
+        *tick += 1;
+        drawn(self.point(slots, *dose, *tick))
+    }
+}
+
+pub fn planned(j: Judged) -> Planned {
+    Planned { number: j.number, place: j.place, set: j.set, grams: j.grams, time: j.time, ..Planned::default() }
+}
+
+pub fn not_drawn(j: Judged) -> Drawn {
+    Drawn { number: j.number, place: j.place, set: j.set, grams: j.grams, time: j.time, state: SHUT, ..Drawn::default() }
+}
+
+pub fn refused(number: u32) -> Drawn {
+    not_drawn(Judged { number, ..Judged::default() })
+}
+
+pub fn drawn(p: Point) -> Drawn {
+    let (state, fan) = match p.state {
+        State::Finished => (FINISHED, 0),
+        State::Shut => (SHUT, 0),
+        State::Idle => (IDLE, 0),
+        State::Dosing(fan) => (DOSING, fan),
+    };
+    Drawn { amount: p.amount, state, fan, ..Drawn::default() }
+}
+
+/// The second program itself, behind the same four entry points.
+pub struct Own(Finder);
+
+/// Classes over all subsets where there are few doses; classes by flows always.
+pub const OWN: Own = Own(classes::all);
+pub const OWN_FLOW: Own = Own(classes::by_flow);
+
+impl Peer for Own {
+    fn plan(&self, order: &[u8], plan: &mut [u8]) -> Planned {
+        if plan.len() < PLAN_BUFFER {
+            return Planned { number: 1, ..Planned::default() };
+        }
+        match accept_by(order, self.0) {
+            Err(j) => planned(j),
+            Ok(house) => {
+                let bytes = house.plan(None);
+                plan[..bytes.len()].copy_from_slice(&bytes);
+                let classes = house.classes.len();
+                Planned { classes: classes as u32, slots: (bytes.len() / RECORD - classes) as u32, ..Planned::default() }
+            }
+        }
+    }
+
+    fn judge(&self, order: &[u8], plan: &[u8]) -> Judged {
+        match accept_by(order, self.0) {
+            Err(j) => j,
+            Ok(house) if house.stands(plan).is_ok() => Judged::default(),
+            Ok(_) => Judged { number: 10, ..Judged::default() },
+        }
+    }
+
+    fn point(&self, order: &[u8], plan: &[u8], dose: usize, tick: u32) -> Drawn {
+        match accept_by(order, self.0) {
+            Err(j) => not_drawn(j),
+            Ok(house) => house.stands(plan).map_or(refused(10), |slots| house.draw(&slots, dose, tick)),
+        }
+    }
+
+    fn advance(&self, order: &[u8], plan: &[u8], dose: &mut usize, tick: &mut u32) -> Drawn {
+        match accept_by(order, self.0) {
+            Err(j) => not_drawn(j),
+            Ok(house) => house.stands(plan).map_or(refused(10), |slots| house.step(&slots, dose, tick)),
+        }
+    }
+}

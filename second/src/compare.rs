@@ -1,0 +1,274 @@
+//! One case: a peer's four entry points held against the second program's own.
+
+use crate::answers::{accept, not_drawn, planned, refused, House, PLAN_BUFFER};
+use crate::demand3::sentences;
+use crate::guard::Lent;
+use crate::layout::{plan_bytes, wrap, Slot};
+use crate::library::{Drawn, Judged, Peer, Planned};
+use crate::orders::{RECORD, WEEK};
+use crate::random::Random;
+use crate::tally::Tally;
+use crate::{alone, cases, near, variants};
+
+/// A case in which the two differ, with the bytes that show it.
+pub struct Difference {
+    pub what: String,
+    pub order: Vec<u8>,
+    pub plan: Vec<u8>,
+}
+
+/// How much of everything a case does.
+#[derive(Clone, Copy)]
+pub struct Measure {
+    /// Short plans are damaged at every byte, most others at this many places.
+    pub bytes: usize,
+    pub points: usize,
+    pub moments: u32,
+}
+
+pub const USUAL: Measure = Measure { bytes: 64, points: 24, moments: 40 };
+
+struct Case<'a> {
+    peer: &'a dyn Peer,
+    order: Vec<u8>,
+    measure: Measure,
+    r: &'a mut Random,
+    tally: &'a mut Tally,
+}
+
+impl Case<'_> {
+    fn differ<T>(&self, what: String, plan: &[u8]) -> Result<T, Difference> {
+        Err(Difference { what, order: self.order.clone(), plan: plan.to_vec() })
+    }
+
+    /// Lends order and plan for one call and sees that neither changed.
+    fn lend<T>(&mut self, plan: &[u8], call: impl FnOnce(&dyn Peer, &[u8], &[u8]) -> T) -> Result<T, Difference> {
+        let (order, lent) = (Lent::new(&self.order, self.r), Lent::new(plan, self.r));
+        let answer = call(self.peer, order.bytes(), lent.bytes());
+        if !order.untouched() || !lent.untouched() {
+            return self.differ("bytes of a lent order or plan changed".into(), plan);
+        }
+        Ok(answer)
+    }
+
+    /// A buffer that is too short, now and then; the answer is 1 whatever the order.
+    fn short(&mut self, own: &Result<House, Judged>) -> Result<(), Difference> {
+        let len = match self.r.below(6) {
+            0 => self.r.pick(&[0, 1, 32, PLAN_BUFFER - 1, PLAN_BUFFER - 32]),
+            1 => self.r.below(PLAN_BUFFER as u64) as usize,
+            _ => return Ok(()),
+        };
+        self.plan(own, len).map(|_| ())
+    }
+
+    fn plan(&mut self, own: &Result<House, Judged>, len: usize) -> Result<Option<Vec<u8>>, Difference> {
+        let order = Lent::new(&self.order, self.r);
+        let mut buffer = Lent::noise(len, self.r);
+        let answer = self.peer.plan(order.bytes(), buffer.bytes_mut());
+        self.tally.planned(answer.number);
+        if !order.untouched() {
+            return self.differ("planning changed the order".into(), &[]);
+        }
+        let wanted = match own {
+            _ if len < PLAN_BUFFER => Planned { number: 1, ..Planned::default() },
+            Err(refusal) => planned(*refusal),
+            Ok(house) => Planned { classes: house.classes.len() as u32, slots: answer.slots, ..Planned::default() },
+        };
+        if answer != wanted {
+            return self.differ(format!("planning with a buffer of {len}: {answer:?} and not {wanted:?}"), &[]);
+        }
+        let written = (answer.classes as usize + answer.slots as usize) * RECORD;
+        if written > len || !buffer.untouched_past(written) {
+            return self.differ(format!("planning changed bytes past its {written}"), &[]);
+        }
+        let (Ok(house), true) = (own, answer.number == 0) else { return Ok(None) };
+        let plan = buffer.bytes()[..written].to_vec();
+        match house.stands(&plan) {
+            Err(clause) => self.differ(format!("the planner's plan does not stand: {clause}"), &plan),
+            Ok(slots) if !by_wrap_around(house, &slots, &plan) => self.differ("a plan not laid by wrap-around".into(), &plan),
+            Ok(_) => Ok(Some(plan)),
+        }
+    }
+
+    /// The verdict on one plan; the answer is its slots if it stands.
+    fn judge(&mut self, house: &House, plan: &[u8]) -> Result<Option<Vec<Slot>>, Difference> {
+        let own = house.stands(plan);
+        self.tally.judged(&own);
+        let wanted = Judged { number: if own.is_ok() { 0 } else { 10 }, ..Judged::default() };
+        let answer = self.lend(plan, |peer, order, plan| peer.judge(order, plan))?;
+        if answer != wanted {
+            let why = own.err().unwrap_or("none");
+            return self.differ(format!("judging: {answer:?} and not {}, clause broken: {why}", wanted.number), plan);
+        }
+        Ok(own.ok())
+    }
+
+    fn point(&mut self, plan: &[u8], wanted: Drawn, dose: usize, tick: u32) -> Result<(), Difference> {
+        let answer = self.lend(plan, |peer, order, plan| peer.point(order, plan, dose, tick))?;
+        self.tally.drawn(answer.number);
+        if answer != wanted {
+            return self.differ(format!("dose {dose} at {tick}: {answer:?} and not {wanted:?}"), plan);
+        }
+        Ok(())
+    }
+
+    /// One step of a pen, with the pen's two numbers between others.
+    fn step(&mut self, plan: &[u8], wanted: Drawn, pen: (usize, u32), after: (usize, u32)) -> Result<(), Difference> {
+        let (mut doses, mut ticks) = ([!pen.0, pen.0, !pen.0], [!pen.1, pen.1, !pen.1]);
+        let answer = self.lend(plan, |peer, order, plan| peer.advance(order, plan, &mut doses[1], &mut ticks[1]))?;
+        self.tally.drawn(answer.number);
+        if answer != wanted {
+            return self.differ(format!("pen {pen:?}: {answer:?} and not {wanted:?}"), plan);
+        }
+        if doses != [!pen.0, after.0, !pen.0] || ticks != [!pen.1, after.1, !pen.1] {
+            return self.differ(format!("pen {pen:?} is now {doses:?}, {ticks:?} and not at {after:?}"), plan);
+        }
+        Ok(())
+    }
+
+    /// Points and pens on a plan that stands: at every slot edge, the dose's edges, the week's end and by chance.
+    fn draw(&mut self, house: &House, slots: &[Slot], plan: &[u8]) -> Result<(), Difference> {
+        let n = house.order.doses.len();
+        let mut asked = Vec::new();
+        for (k, d) in house.order.doses.iter().enumerate() {
+            let near = [0, 1, d.release.saturating_sub(1), d.release, d.release + 1, d.deadline - 1, d.deadline, d.deadline + 1];
+            asked.extend(near.map(|t| (k, t)));
+            asked.extend([WEEK - 1, WEEK, WEEK + 1, u32::MAX].map(|t| (k, t)));
+            asked.extend((0..4).map(|_| (k, self.r.range(d.release, d.deadline))));
+        }
+        for s in slots {
+            let k = s.dose as usize;
+            asked.extend([s.start.0, s.start.0 + 1, s.end.0, s.end.0 + 1, s.end.0.saturating_sub(1)].map(|t| (k, t)));
+        }
+        self.r.shuffle(&mut asked);
+        asked.truncate(self.measure.points);
+        asked.extend([(n, 0), (n + 1, WEEK + 1), (usize::MAX, u32::MAX), (n, self.r.range(0, WEEK))]);
+        for (dose, tick) in asked {
+            self.point(plan, house.draw(slots, dose, tick), dose, tick)?;
+            let (mut k, mut t) = (dose, if self.r.once_in(2) { tick.wrapping_sub(1) } else { tick });
+            for _ in 0..self.r.range(0, 2) {
+                let before = (k, t);
+                let wanted = house.step(slots, &mut k, &mut t);
+                self.step(plan, wanted, before, (k, t))?;
+            }
+        }
+        Ok(())
+    }
+
+    /// A plan that must stand: judged, drawn, and demand 3 held against it.
+    fn standing(&mut self, house: &House, plan: &[u8]) -> Result<(), Difference> {
+        let Some(slots) = self.judge(house, plan)? else {
+            return self.differ("a plan that should stand does not".into(), plan);
+        };
+        if let Err(what) = sentences(house, &slots, self.measure.moments, self.r) {
+            return self.differ(format!("demand 3: {what}"), plan);
+        }
+        self.draw(house, &slots, plan)
+    }
+
+    fn damaged(&mut self, house: &House, plan: &[u8]) -> Result<(), Difference> {
+        let mut places: Vec<usize> = (0..plan.len()).collect();
+        let every = plan.len() <= 8 * RECORD || (plan.len() <= 64 * RECORD && self.r.once_in(8));
+        if !every {
+            self.r.shuffle(&mut places);
+            places.truncate(self.measure.bytes);
+        }
+        for at in places {
+            let bytes = variants::damage_byte(plan, at, self.r);
+            self.judge(house, &bytes)?;
+        }
+        for _ in 0..20 {
+            let mut bytes = variants::damage(plan, self.r);
+            if self.r.once_in(4) {
+                bytes = variants::damage(&bytes, self.r);
+            }
+            let slots = self.judge(house, &bytes)?;
+            let (dose, tick) = (self.r.below(30) as usize, self.r.range(0, WEEK + 9));
+            match slots {
+                Some(slots) => self.point(&bytes, house.draw(&slots, dose, tick), dose, tick)?,
+                None => {
+                    self.point(&bytes, refused(10), dose, tick)?;
+                    self.step(&bytes, refused(10), (dose, tick), (dose, tick))?;
+                }
+            }
+        }
+        Ok(())
+    }
+
+    /// A refused order: judging and drawing refuse alike, whatever the plan bytes.
+    fn refused(&mut self, refusal: Judged) -> Result<(), Difference> {
+        let len = self.r.pick(&[0, 0, 32, 31, 320]);
+        let plan: Vec<u8> = (0..len).map(|i| if i % RECORD == 0 { b'C' } else { 0 }).collect();
+        let answer = self.lend(&plan, |peer, order, plan| peer.judge(order, plan))?;
+        if answer != refusal {
+            return self.differ(format!("judging a refused order: {answer:?} and not {refusal:?}"), &plan);
+        }
+        let pen = (self.r.below(26) as usize, self.r.pick(&[0, 5, WEEK, WEEK + 1]));
+        self.point(&plan, not_drawn(refusal), pen.0, pen.1)?;
+        self.step(&plan, not_drawn(refusal), pen, pen)
+    }
+
+    /// Planning alone, and judging where the order is refused.
+    fn brief(&mut self) -> Result<(), Difference> {
+        let own = accept(&self.order);
+        self.plan(&own, PLAN_BUFFER)?;
+        own.err().map_or(Ok(()), |refusal| self.refused(refusal))
+    }
+
+    fn run(&mut self) -> Result<(), Difference> {
+        let own = accept(&self.order);
+        self.tally.order(&own);
+        self.short(&own)?;
+        let len = PLAN_BUFFER + if self.r.once_in(8) { self.r.below(3_000) as usize } else { 0 };
+        let planned = self.plan(&own, len)?;
+        let house = match own {
+            Err(refusal) => return self.refused(refusal),
+            Ok(house) => house,
+        };
+        let mut plans: Vec<Vec<u8>> = planned.into_iter().collect();
+        plans.push(house.plan(None));
+        plans.push(variants::standing(&house, self.r));
+        plans.push(variants::standing(&house, self.r));
+        for plan in &plans {
+            self.standing(&house, plan)?;
+        }
+        let any = self.r.below(plans.len() as u64) as usize;
+        let slots = house.stands(&plans[any]).unwrap_or_default();
+        for (clause, bytes) in alone::each(&house, &plans[any], &slots, self.r) {
+            if self.judge(&house, &bytes)?.is_some() {
+                return self.differ(format!("{clause} broken on purpose, and the plan stands"), &bytes);
+            }
+        }
+        self.damaged(&house, &plans[any])
+    }
+}
+
+/// The plan's shares, added up from its slots, laid again: the same bytes.
+fn by_wrap_around(house: &House, slots: &[Slot], plan: &[u8]) -> bool {
+    let (n, m) = (house.order.doses.len(), house.spans.count());
+    let mut shares = vec![vec![vec![0u64; n]; m]; house.classes.len()];
+    for s in slots {
+        let j = house.spans.at(s.start.0).expect("a slot of a plan that stands lies in an interval");
+        shares[s.class as usize - 1][j][s.dose as usize] += s.to() - s.from();
+    }
+    plan_bytes(&house.classes, &wrap(&house.spans, &house.classes, &shares)) == plan
+}
+
+/// The order of a case: document 01's examples and the samples first, then by chance.
+pub fn order_of(number: u64, r: &mut Random) -> Vec<u8> {
+    cases::fixed().into_iter().nth(number as usize).unwrap_or_else(|| near::bytes(r))
+}
+
+/// Runs one case of a seed. The first also takes every length of order from 0 to 1,700.
+pub fn case(peer: &dyn Peer, seed: u64, number: u64, measure: Measure, tally: &mut Tally) -> Result<(), Difference> {
+    let mut r = Random::of_case(seed, number);
+    let order = order_of(number, &mut r);
+    Case { peer, order, measure, r: &mut r, tally }.run()?;
+    if number == 0 {
+        let long = near::long(&mut r);
+        for len in 0..=1_700 {
+            Case { peer, order: long[..len].to_vec(), measure, r: &mut r, tally }.brief()?;
+        }
+    }
+    Ok(())
+}

@@ -1,0 +1,130 @@
+//! The boundary: numbers and byte slices only. The one module that may be unsafe.
+
+#[repr(C)]
+#[derive(Clone, Copy, Debug, Default, PartialEq, Eq)]
+pub struct Planned {
+    pub number: u32,
+    pub place: u32,
+    pub set: u32,
+    pub grams: u32,
+    pub time: u32,
+    pub classes: u32,
+    pub slots: u32,
+}
+
+#[repr(C)]
+#[derive(Clone, Copy, Debug, Default, PartialEq, Eq)]
+pub struct Judged {
+    pub number: u32,
+    pub place: u32,
+    pub set: u32,
+    pub grams: u32,
+    pub time: u32,
+}
+
+pub const FINISHED: u32 = 0;
+pub const SHUT: u32 = 1;
+pub const IDLE: u32 = 2;
+pub const DOSING: u32 = 3;
+
+#[repr(C)]
+#[derive(Clone, Copy, Debug, Default, PartialEq, Eq)]
+pub struct Drawn {
+    pub number: u32,
+    pub place: u32,
+    pub set: u32,
+    pub grams: u32,
+    pub time: u32,
+    pub amount: u32,
+    pub state: u32,
+    pub fan: u32,
+}
+
+/// The four entry points, whoever answers them.
+pub trait Peer: Sync {
+    fn plan(&self, order: &[u8], plan: &mut [u8]) -> Planned;
+    fn judge(&self, order: &[u8], plan: &[u8]) -> Judged;
+    fn point(&self, order: &[u8], plan: &[u8], dose: usize, tick: u32) -> Drawn;
+    fn advance(&self, order: &[u8], plan: &[u8], dose: &mut usize, tick: &mut u32) -> Drawn;
+}
+
+#[cfg(feature = "library")]
+mod linked {
+    use super::{Drawn, Judged, Peer, Planned};
+
+    #[link(name = "knellgable", kind = "static")]
+    extern "C" {
+        fn knellgable_plan(order: *const u8, order_len: usize, plan: *mut u8, plan_len: usize) -> Planned;
+        fn knellgable_judge(order: *const u8, order_len: usize, plan: *const u8, plan_len: usize) -> Judged;
+        fn knellgable_point(order: *const u8, order_len: usize, plan: *const u8, plan_len: usize, dose: usize, tick: u32) -> Drawn;
+        fn knellgable_advance(
+            order: *const u8,
+            order_len: usize,
+            plan: *const u8,
+            plan_len: usize,
+            dose: *mut usize,
+            tick: *mut u32,
+        ) -> Drawn;
+    }
+
+    /// The proved library. Each call lends slices that live as long as the call.
+    pub struct Library;
+
+    impl Peer for Library {
+        fn plan(&self, order: &[u8], plan: &mut [u8]) -> Planned {
+            unsafe { knellgable_plan(order.as_ptr(), order.len(), plan.as_mut_ptr(), plan.len()) }
+        }
+
+        fn judge(&self, order: &[u8], plan: &[u8]) -> Judged {
+            unsafe { knellgable_judge(order.as_ptr(), order.len(), plan.as_ptr(), plan.len()) }
+        }
+
+        fn point(&self, order: &[u8], plan: &[u8], dose: usize, tick: u32) -> Drawn {
+            unsafe { knellgable_point(order.as_ptr(), order.len(), plan.as_ptr(), plan.len(), dose, tick) }
+        }
+
+        fn advance(&self, order: &[u8], plan: &[u8], dose: &mut usize, tick: &mut u32) -> Drawn {
+            unsafe { knellgable_advance(order.as_ptr(), order.len(), plan.as_ptr(), plan.len(), dose, tick) }
+        }
+    }
+}
+
+#[cfg(feature = "library")]
+pub use linked::Library;
+
+/// Bytes of stack that are painted before a call.
+const PAINTED: usize = 1 << 20;
+const PAINT: u8 = 0xA5;
+
+/// Paints the stack below the caller; the answer is the lowest painted place.
+#[inline(never)]
+fn paint() -> usize {
+    let mut wall = [0u8; PAINTED];
+    for byte in wall.iter_mut() {
+        unsafe { std::ptr::write_volatile(byte, PAINT) };
+    }
+    wall.as_ptr() as usize
+}
+
+/// How far down the paint is gone, read where it was laid (a frame of its own would wet it).
+#[inline(never)]
+fn look(low: usize) -> usize {
+    let mut kept = 0;
+    while kept < PAINTED && unsafe { std::ptr::read_volatile((low + kept) as *const u8) } == PAINT {
+        kept += 1;
+    }
+    PAINTED - kept
+}
+
+/// The deepest stack use of a call, on a thread of its own: paint, call and look.
+pub fn stack_use(call: impl FnOnce() + Send) -> usize {
+    std::thread::scope(|scope| {
+        let deep = std::thread::Builder::new().stack_size(8 * PAINTED);
+        let worker = deep.spawn_scoped(scope, || {
+            let low = paint();
+            call();
+            look(low)
+        });
+        worker.expect("a thread starts").join().expect("a thread ends")
+    })
+}

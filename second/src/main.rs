@@ -1,0 +1,102 @@
+//! An independent second program: orders, classes, plans, verdicts and lines by document 01.
+
+#![deny(unsafe_code)]
+
+mod alone;
+mod answers;
+mod bench;
+mod cases;
+mod classes;
+mod compare;
+mod demand3;
+mod flow;
+mod guard;
+mod intervals;
+mod layout;
+#[allow(unsafe_code)]
+mod library;
+mod line;
+mod near;
+mod orders;
+mod printer;
+mod random;
+mod runs;
+mod samples;
+mod selftest;
+mod shares;
+#[cfg(feature = "errors")]
+mod slips;
+mod stands;
+mod styles;
+mod tally;
+mod variants;
+
+use std::process::ExitCode;
+
+const USE: &str = "use: second self [cases] [seed]
+     second compare [cases] [seed] [threads] [first case]
+     second errors [cases] [seed]           (built with --features errors)
+     second case FILE [PLAN FILE]
+     second plan FILE
+     second bench [orders] [FILE]
+     second make-samples DIR";
+
+/// The peer that `compare` asks: the proved library if it is linked.
+#[cfg(feature = "library")]
+const PEER: (&str, library::Library) = ("the proved library", library::Library);
+#[cfg(not(feature = "library"))]
+const PEER: (&str, answers::Own) = ("the second program itself (built without --features library)", answers::OWN);
+
+fn number(args: &[String], at: usize, usual: u64) -> u64 {
+    match args.get(at) {
+        None => usual,
+        Some(text) => text.parse().unwrap_or_else(|_| {
+            eprintln!("not a number: {text}");
+            std::process::exit(2)
+        }),
+    }
+}
+
+fn file(args: &[String], at: usize) -> Vec<u8> {
+    let Some(name) = args.get(at) else {
+        eprintln!("{USE}");
+        std::process::exit(2)
+    };
+    std::fs::read(name).unwrap_or_else(|e| {
+        eprintln!("{name}: {e}");
+        std::process::exit(2)
+    })
+}
+
+fn main() -> ExitCode {
+    let args: Vec<String> = std::env::args().skip(1).collect();
+    let good = match args.first().map(String::as_str) {
+        Some("self") => selftest::run(number(&args, 1, 2_000), number(&args, 2, 1)),
+        Some("compare") => {
+            println!("comparing with {}", PEER.0);
+            runs::run(&PEER.1, number(&args, 1, 1_000), number(&args, 2, 1), number(&args, 4, 0), number(&args, 3, 1), compare::USUAL)
+        }
+        #[cfg(feature = "errors")]
+        Some("errors") => slips::run(number(&args, 1, 1_000), number(&args, 2, 1)),
+        Some("case") => {
+            let plan = if args.len() > 2 { Some(file(&args, 2)) } else { None };
+            printer::case(&file(&args, 1), plan.as_deref());
+            true
+        }
+        Some("plan") => {
+            print!("{}", printer::plan(&file(&args, 1)));
+            true
+        }
+        Some("bench") => bench::run(number(&args, 1, 100) as usize, args.get(2).map(String::as_str)),
+        Some("make-samples") => samples::make(args.get(1).map_or(".", String::as_str)),
+        _ => {
+            eprintln!("{USE}");
+            return ExitCode::from(2);
+        }
+    };
+    if good {
+        ExitCode::SUCCESS
+    } else {
+        ExitCode::FAILURE
+    }
+}

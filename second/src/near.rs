@@ -1,0 +1,173 @@
+//! Bytes that are nearly orders: every refusal, damaged bytes, any length.
+
+use crate::orders::{dose_record, fan_record, put, Dose, MILLION, RECORD, WEEK};
+use crate::random::Random;
+use crate::styles;
+
+/// The starts of the records of one kind.
+fn records(bytes: &[u8], kind: u8) -> Vec<usize> {
+    (0..bytes.len() / RECORD).map(|i| i * RECORD).filter(|&i| bytes[i] == kind).collect()
+}
+
+fn any(r: &mut Random, list: &[usize]) -> Option<usize> {
+    if list.is_empty() {
+        None
+    } else {
+        Some(r.pick(list))
+    }
+}
+
+fn insert(bytes: &mut Vec<u8>, record: &[u8], r: &mut Random) {
+    let at = r.below((bytes.len() / RECORD) as u64 + 1) as usize * RECORD;
+    bytes.splice(at..at, record.iter().copied());
+}
+
+/// A dose field at or past its bounds.
+fn bad_dose(bytes: &mut [u8], at: usize, r: &mut Random) {
+    let (offset, width, value) = r.pick(&[
+        (2, 2, 0),
+        (2, 2, 1_000),
+        (2, 2, 999),
+        (2, 2, 65_535),
+        (4, 4, WEEK),
+        (4, 4, WEEK - 1),
+        (4, 4, u32::MAX),
+        (8, 4, WEEK + 1),
+        (8, 4, WEEK),
+        (8, 4, 0),
+        (8, 4, u32::MAX),
+        (12, 4, 0),
+        (12, 4, MILLION),
+        (12, 4, MILLION + 1),
+        (12, 4, u32::MAX),
+        (8, 4, u32::MAX - 1),
+        (4, 4, 0),
+    ]);
+    put(&mut bytes[at..], offset, width, value);
+    if r.once_in(4) {
+        let release = crate::orders::number(&bytes[at..], 4, 4);
+        put(&mut bytes[at..], 8, 4, release.wrapping_add(r.below(2) as u32));
+    }
+}
+
+fn bad_fan(bytes: &mut [u8], at: usize, r: &mut Random) {
+    let (offset, width, value) = r.pick(&[
+        (1, 1, 0),
+        (1, 1, 8),
+        (1, 1, 9),
+        (1, 1, 255),
+        (4, 4, 0),
+        (4, 4, 1),
+        (4, 4, MILLION),
+        (4, 4, MILLION + 1),
+        (8, 4, 0),
+        (8, 4, MILLION),
+        (8, 4, MILLION + 1),
+        (8, 4, u32::MAX),
+        (4, 4, u32::MAX),
+    ]);
+    put(&mut bytes[at..], offset, width, value);
+}
+
+/// A dose in the bay of another, overlapping, touching or apart by a second.
+fn same_bay(bytes: &mut Vec<u8>, at: usize, r: &mut Random) {
+    let field = |o, w| crate::orders::number(&bytes[at..], o, w);
+    let (bay, release, deadline) = (field(2, 2), field(4, 4), field(8, 4));
+    let (a, b) = match r.below(4) {
+        0 => (deadline.saturating_add(r.below(2) as u32).saturating_sub(1), deadline.saturating_add(2)),
+        1 => (release.saturating_sub(3), release.saturating_add(r.below(2) as u32)),
+        2 => (release, deadline),
+        _ => (0, WEEK),
+    };
+    let b = b.min(WEEK);
+    let d = Dose { bay, release: a.min(b.saturating_sub(1)), deadline: b, grams: r.range(1, 50) };
+    insert(bytes, &dose_record(&d), r);
+}
+
+fn spoil(bytes: &mut Vec<u8>, r: &mut Random) {
+    let whole = bytes.len() / RECORD;
+    let some = if whole == 0 { None } else { Some(r.below(whole as u64) as usize * RECORD) };
+    let (doses, fans) = (records(bytes, b'D'), records(bytes, b'F'));
+    match r.below(11) {
+        0 => {
+            let cut = r.below(bytes.len() as u64 + 1) as usize;
+            bytes.truncate(cut);
+        }
+        1 => bytes.extend((0..r.range(1, 40)).map(|_| r.pick(&[0, b'F', b'D', 255])).collect::<Vec<u8>>()),
+        2 => {
+            if let Some(at) = some {
+                bytes[at] = r.pick(&[0, b'C', b'S', b'O', b'M', b'E', b'G', b'd', b'f', 255, b'F', b'D']);
+            }
+        }
+        3 => {
+            if let Some(at) = some {
+                bytes[at + r.pick(&[1, 2, 3, 12, 15, 16, 20, 30, 31])] = r.pick(&[1, 128, 255]);
+            }
+        }
+        4 | 5 => {
+            if let Some(at) = any(r, &doses) {
+                bad_dose(bytes, at, r);
+            }
+        }
+        6 => {
+            if let Some(at) = any(r, &fans) {
+                bad_fan(bytes, at, r);
+            }
+        }
+        7 => match any(r, &fans) {
+            Some(at) if r.once_in(2) => drop(bytes.drain(at..at + RECORD)),
+            _ => insert(bytes, &fan_record(r.range(1, 8), MILLION, 1), r),
+        },
+        8 => {
+            for i in 0..r.range(1, 30) {
+                let d = Dose { bay: 1 + (whole as u32 * 7 + i) % 999, release: i, deadline: i + 1, grams: 1 };
+                insert(bytes, &dose_record(&d), r);
+            }
+        }
+        9 => {
+            if let Some(at) = any(r, &doses) {
+                same_bay(bytes, at, r);
+            }
+        }
+        _ => {
+            for _ in 0..r.range(1, 3).min(bytes.len() as u32) {
+                let at = r.below(bytes.len() as u64) as usize;
+                bytes[at] = if r.once_in(2) { bytes[at] ^ 1 << r.below(8) } else { r.below(256) as u8 };
+            }
+        }
+    }
+}
+
+/// Any length from 0 to 1,700: records repeated, noise, or a mixture.
+fn any_length(r: &mut Random) -> Vec<u8> {
+    let len = if r.once_in(2) { RECORD * r.below(54) as usize } else { r.below(1_701) as usize };
+    match r.below(3) {
+        0 => (0..len).map(|_| r.below(256) as u8).collect(),
+        1 => (0..len).map(|i| if i % RECORD == 0 { r.pick(b"FDDD") } else { 0 }).collect(),
+        _ => long(r)[..len].to_vec(),
+    }
+}
+
+/// More right records than an order may have.
+pub fn long(r: &mut Random) -> Vec<u8> {
+    let mut all = fan_record(r.range(1, 8), MILLION, 1).to_vec();
+    for i in 0..60 {
+        all.extend(dose_record(&Dose { bay: 1 + i, release: 5 * i, deadline: 5 * i + 7, grams: 3 + i }));
+    }
+    all
+}
+
+/// Bytes for one case: an order, nearly one, or none.
+pub fn bytes(r: &mut Random) -> Vec<u8> {
+    if r.once_in(16) {
+        return any_length(r);
+    }
+    let (order, _) = styles::valid(r);
+    let mut bytes = styles::bytes(&order, r);
+    if r.once_in(3) {
+        for _ in 0..r.pick(&[1, 1, 1, 2, 3]) {
+            spoil(&mut bytes, r);
+        }
+    }
+    bytes
+}

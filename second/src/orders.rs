@@ -1,0 +1,124 @@
+//! F and D records: reading an order, refusals 2 to 8 with their place, and writing one.
+
+pub const RECORD: usize = 32;
+pub const LONGEST_ORDER: usize = 1_600;
+pub const MOST_DOSES: usize = 24;
+pub const WEEK: u32 = 604_800;
+pub const MILLION: u32 = 1_000_000;
+
+#[derive(Clone, Copy, Debug, PartialEq, Eq)]
+pub struct Dose {
+    pub bay: u32,
+    pub release: u32,
+    pub deadline: u32,
+    pub grams: u32,
+}
+
+#[derive(Clone, Debug, PartialEq, Eq)]
+pub struct Order {
+    pub fans: u32,
+    pub top_grams: u32,
+    pub top_seconds: u32,
+    pub doses: Vec<Dose>,
+}
+
+#[derive(Clone, Copy, Debug, PartialEq, Eq)]
+pub struct Refusal {
+    pub number: u32,
+    pub place: u32,
+}
+
+/// A number of 1, 2 or 4 bytes, least significant first.
+pub fn number(record: &[u8], at: usize, width: usize) -> u32 {
+    (0..width).rev().fold(0, |sum, i| sum * 256 + u32::from(record[at + i]))
+}
+
+pub fn put(record: &mut [u8], at: usize, width: usize, value: u32) {
+    record[at..at + width].copy_from_slice(&value.to_le_bytes()[..width]);
+}
+
+pub fn zero(record: &[u8], from: usize, to: usize) -> bool {
+    record[from..to].iter().all(|&b| b == 0)
+}
+
+fn between(low: u32, x: u32, high: u32) -> bool {
+    low <= x && x <= high
+}
+
+/// Reads an order: 2, then record by record 3, 4, 5, then 6, 7, 8.
+pub fn read(bytes: &[u8]) -> Result<Order, Refusal> {
+    let refuse = |number, place: usize| Err(Refusal { number, place: place as u32 });
+    if bytes.len() % RECORD != 0 || bytes.len() > LONGEST_ORDER {
+        return refuse(2, 0);
+    }
+    let mut fans = Vec::new();
+    let mut doses: Vec<(usize, Dose)> = Vec::new();
+    for (place, r) in bytes.chunks(RECORD).enumerate() {
+        match r[0] {
+            b'F' => {
+                if !zero(r, 2, 4) || !zero(r, 12, 32) {
+                    return refuse(4, place);
+                }
+                let f = (number(r, 1, 1), number(r, 4, 4), number(r, 8, 4));
+                if !(between(1, f.0, 8) && between(1, f.1, MILLION) && between(1, f.2, MILLION)) {
+                    return refuse(5, place);
+                }
+                fans.push(f);
+            }
+            b'D' => {
+                if !zero(r, 1, 2) || !zero(r, 16, 32) {
+                    return refuse(4, place);
+                }
+                let d = Dose { bay: number(r, 2, 2), release: number(r, 4, 4), deadline: number(r, 8, 4), grams: number(r, 12, 4) };
+                let right =
+                    between(1, d.bay, 999) && d.release < WEEK && between(d.release + 1, d.deadline, WEEK) && between(1, d.grams, MILLION);
+                if !right {
+                    return refuse(5, place);
+                }
+                doses.push((place, d));
+            }
+            _ => return refuse(3, place),
+        }
+    }
+    if fans.len() != 1 {
+        return refuse(6, 0);
+    }
+    if doses.len() > MOST_DOSES {
+        return refuse(7, 0);
+    }
+    for (i, (place, d)) in doses.iter().enumerate() {
+        let clash = |e: &Dose| e.bay == d.bay && e.release < d.deadline && d.release < e.deadline;
+        if doses[..i].iter().any(|(_, e)| clash(e)) {
+            return refuse(8, *place);
+        }
+    }
+    let (n, top_grams, top_seconds) = fans[0];
+    Ok(Order { fans: n, top_grams, top_seconds, doses: doses.into_iter().map(|(_, d)| d).collect() })
+}
+
+pub fn fan_record(fans: u32, top_grams: u32, top_seconds: u32) -> [u8; RECORD] {
+    let mut r = [0; RECORD];
+    r[0] = b'F';
+    put(&mut r, 1, 1, fans);
+    put(&mut r, 4, 4, top_grams);
+    put(&mut r, 8, 4, top_seconds);
+    r
+}
+
+pub fn dose_record(d: &Dose) -> [u8; RECORD] {
+    let mut r = [0; RECORD];
+    r[0] = b'D';
+    put(&mut r, 2, 2, d.bay);
+    put(&mut r, 4, 4, d.release);
+    put(&mut r, 8, 4, d.deadline);
+    put(&mut r, 12, 4, d.grams);
+    r
+}
+
+/// The bytes of an order with its F record before dose `fan_at` (or last).
+pub fn write(order: &Order, fan_at: usize) -> Vec<u8> {
+    let fan = fan_record(order.fans, order.top_grams, order.top_seconds);
+    let mut records: Vec<_> = order.doses.iter().map(dose_record).collect();
+    records.insert(fan_at.min(order.doses.len()), fan);
+    records.concat()
+}

@@ -1,0 +1,75 @@
+//! What the plan printer says of an order, and what the second program thinks of it.
+
+use crate::answers::{accept, House};
+use crate::layout::Slot;
+use crate::library::Judged;
+use crate::line::State;
+use std::fmt::Write;
+
+/// At most 1,601 bytes are read.
+const READ: usize = 1_601;
+
+fn refusal(j: &Judged) -> String {
+    match j.number {
+        9 => format!("refused 9 {} {} {} {}\n", j.place, j.set, j.grams, j.time),
+        n => format!("refused {n} {}\n", j.place),
+    }
+}
+
+pub fn plan(order: &[u8]) -> String {
+    match accept(&order[..order.len().min(READ)]) {
+        Err(j) => refusal(&j),
+        Ok(house) => lines(&house, &house.slots(None)),
+    }
+}
+
+fn lines(house: &House, slots: &[Slot]) -> String {
+    let mut text = String::new();
+    for (i, c) in house.classes.iter().enumerate() {
+        writeln!(text, "class {} {} {} {}", i + 1, c.set.count_ones(), c.grams, c.time).unwrap();
+    }
+    for s in slots {
+        let (a, b) = (s.start, s.end);
+        writeln!(text, "slot {} {} {} {} {} {} {}", s.fan, s.dose, a.0, a.1, b.0, b.1, s.class).unwrap();
+    }
+    writeln!(text, "total {} {}", house.classes.len(), slots.len()).unwrap();
+    text
+}
+
+/// Doses, classes and the plan's verdict, in words.
+pub fn case(order: &[u8], plan: Option<&[u8]>) {
+    println!("{} bytes of order", order.len());
+    let house = match accept(order) {
+        Err(j) => {
+            print!("{}", refusal(&j));
+            return;
+        }
+        Ok(house) => house,
+    };
+    let o = &house.order;
+    println!("{} fans, top {}/{}, {} doses, {} intervals", o.fans, o.top_grams, o.top_seconds, o.doses.len(), house.spans.count());
+    for (k, d) in o.doses.iter().enumerate() {
+        println!("dose {k}: bay {}, [{}, {}) {} grams", d.bay, d.release, d.deadline, d.grams);
+    }
+    for (i, c) in house.classes.iter().enumerate() {
+        let doses: Vec<usize> = (0..o.doses.len()).filter(|k| c.set >> k & 1 == 1).collect();
+        println!("class {}: {}/{}, doses {doses:?}, reserved {:?}", i + 1, c.grams, c.time, c.reserved);
+    }
+    let own = house.plan(None);
+    let plan = plan.unwrap_or(&own);
+    match house.stands(plan) {
+        Err(clause) => println!("the plan of {} bytes does not stand: {clause}", plan.len()),
+        Ok(slots) => {
+            println!("the plan of {} bytes stands, {} slots", plan.len(), slots.len());
+            for (k, d) in o.doses.iter().enumerate() {
+                let middle = d.release + (d.deadline - d.release) / 2;
+                let p = house.point(&slots, k, middle);
+                let state = match p.state {
+                    State::Dosing(fan) => format!("Dosing on fan {fan}"),
+                    other => format!("{other:?}"),
+                };
+                println!("dose {k} at {middle}: {} grams, {state}", p.amount);
+            }
+        }
+    }
+}

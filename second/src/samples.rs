@@ -1,0 +1,67 @@
+//! The sample orders, and what the printer says of each.
+
+use crate::cases::p2;
+use crate::orders::{write, Dose, Order};
+use crate::printer;
+use std::path::Path;
+
+const HARD: &[u8] = include_bytes!("../../samples/hard.order");
+
+/// A day of a house: bay, release and deadline as hour and minute, grams.
+const DAY: [(u32, (u32, u32), (u32, u32), u32); 24] = [
+    (101, (5, 30), (6, 15), 1_800),
+    (102, (5, 30), (6, 15), 1_800),
+    (103, (5, 45), (7, 0), 2_400),
+    (104, (6, 0), (6, 5), 900),
+    (105, (6, 0), (8, 0), 5_200),
+    (106, (6, 0), (8, 0), 5_200),
+    (107, (6, 0), (8, 0), 4_750),
+    (108, (6, 0), (8, 0), 5_200),
+    (109, (6, 0), (8, 0), 5_200),
+    (110, (6, 0), (8, 30), 7_500),
+    (111, (6, 10), (7, 40), 4_100),
+    (112, (6, 15), (7, 45), 6_250),
+    (113, (6, 15), (6, 45), 1_350),
+    (114, (6, 30), (7, 10), 2_250),
+    (115, (6, 30), (7, 10), 2_250),
+    (104, (6, 30), (9, 0), 4_000),
+    (101, (6, 40), (6, 50), 1_250),
+    (102, (7, 0), (12, 0), 12_000),
+    (103, (7, 0), (7, 20), 1_600),
+    (101, (7, 15), (9, 0), 3_900),
+    (106, (9, 15), (9, 16), 75),
+    (107, (11, 0), (13, 0), 6_400),
+    (201, (0, 0), (24, 0), 20_000),
+    (901, (17, 59), (18, 0), 30),
+];
+
+fn house() -> Order {
+    let seconds = |(h, m): (u32, u32)| h * 3_600 + m * 60;
+    let dose = |&(bay, from, to, grams): &_| Dose { bay, release: seconds(from), deadline: seconds(to), grams };
+    Order { fans: 8, top_grams: 7, top_seconds: 2, doses: DAY.iter().map(dose).collect() }
+}
+
+/// The samples by name.
+pub fn all() -> Vec<(&'static str, Vec<u8>)> {
+    let mut fast = house();
+    (fast.top_grams, fast.top_seconds) = (29, 10);
+    let mut damaged = write(&house(), 0);
+    damaged[7 * 32 + 21] = 0x40;
+    vec![("p2", write(&p2(), 0)), ("house", write(&house(), 0)), ("fast", write(&fast, 0)), ("damaged", damaged), ("hard", HARD.to_vec())]
+}
+
+/// Writes NAME.order and NAME.txt for each sample.
+pub fn make(folder: &str) -> bool {
+    for (name, bytes) in all() {
+        let text = printer::plan(&bytes);
+        for (end, content) in [("order", bytes.as_slice()), ("txt", text.as_bytes())] {
+            let file = Path::new(folder).join(format!("{name}.{end}"));
+            if let Err(e) = std::fs::write(&file, content) {
+                println!("{}: {e}", file.display());
+                return false;
+            }
+        }
+        println!("{name}: {} bytes, {}", bytes.len(), text.lines().last().unwrap_or(""));
+    }
+    true
+}
