@@ -1,35 +1,34 @@
 -- Plan bytes that pass the tests stand for the order.
-use mathlib.Core.Path.{_∙_, _≡_, ap, refl, sym, subst}
-use mathlib.Core.Bool.{Bool, true, false, not}
-use mathlib.Core.Logic.{_⊎_, inl, inr}
+use mathlib.Core.Path.{_∙_, _≡_, ap, refl, sym}
+use mathlib.Core.Bool.{not}
+use mathlib.Core.Logic.{inl, inr}
 use mathlib.Core.List.{List, [], _∷_}
-use Prim.Native.Nat.{ℕ, zero, suc, _+_, _-_, _*_, _/_, _%_, _<_, _≤_}
+use Prim.Native.Nat.{ℕ, zero, suc, _+_, _-_, _/_, _<_, _≤_}
 use native.Mathlib.Nat.{add-zero, mul-lt-mul-of-pos-left}
 use native.Mathlib.Numerals.{add-one}
 use native.Mathlib.Omega.{arith}
 use borrow.Author.Tests.{ne-eqb}
 use lib.Dec.{T, T-not, eqb, eqb→eq, eqb-refl}
 use lib.ListN.{getD, length}
-use Rattle.model.specs.Sets.{Doses, Nonempty, sum}
+use Rattle.model.specs.Sets.{Doses, sum}
 use Rattle.model.specs.Lists.{All, Pairs, total}
 use Rattle.model.specs.Records.{read, recordAt}
-use Rattle.model.specs.Orders.{Order, doseAt}
-use Rattle.model.specs.Classes.{W, classP, remaining}
-use Rattle.model.specs.Intervals.{fansPresent, intervalCount, settingOf}
+use Rattle.model.specs.Orders.{Order}
+use Rattle.model.specs.Classes.{Classes, remaining}
+use Rattle.model.specs.Intervals.{fansPresent, settingOf}
 use Rattle.model.specs.Layout.{classAt, classesOf}
-use Rattle.model.specs.Plans.{Class, Slot, classOf, classRecord, planOf, planRecordOf, planRecords, slotRecord}
-use Rattle.model.specs.Stands.{InInterval, InOrder, Named, NoOverlap, SlotsStand, Stands, ends, starts, unitsOf}
+use Rattle.model.specs.Plans.{Class, Slot, classOf, planOf, planRecordOf, planRecords, slotRecord}
+use Rattle.model.specs.Stands.{InInterval, InOrder, Named, NoOverlap, SlotsStand, Stands, unitsOf}
 use Rattle.model.specs.Stands as stands
 use Rattle.model.proofs.Sums.{last, sum-congr}
 use Rattle.model.proofs.Fractions.{compare≤}
 use Rattle.model.proofs.Sets.{and-both, and-left, and-right, weight-pos}
-use Rattle.model.proofs.Sequence.{Nested}
 use Rattle.model.proofs.Certificate.{Falling}
 use Rattle.model.proofs.Orders.{Fit}
 use Rattle.model.proofs.Lists.{All-of, Pairs-of, length-singles, total-at}
 use Rattle.model.proofs.PlanPieces.{noSlot}
-use Rattle.model.proofs.Judging.{certified-stands}
-use Rattle.judge.specs.Tests.{InTurn, Passes, Sheet, SheetOf, SlotFits, by-fan, by-interval, by-time, classIn, needIn, placeIn, setsOf, slotIn, unitsUpTo}
+use Rattle.model.proofs.Judging.{certified-classes, certified-stands}
+use Rattle.judge.specs.Tests.{InTurn, Passes, Sheet, SheetOf, SlotFits, by-fan, by-interval, by-time, classIn, placeIn, setsOf, slotIn, unitsUpTo}
 use Rattle.judge.proofs.Rows.{class-row, gather-at, noClass, noRecord, plan-class, plan-length, plan-slot, rows-read, slot-row}
 use Rattle.judge.proofs.Places.{ends-apart, turns-all}
 use Rattle.judge.proofs.Sheets.{instants-up, same-grams, same-size, same-time}
@@ -239,6 +238,10 @@ module _ (o : Order) (fit : Fit o) (h : Sheet) (sh : SheetOf o h) (b : List ℕ)
             class-row (recordAt b k) k (q .rows .class-rows k g)
             ∙ ap read (sym (plan-class (classesOf o p C) slots k (omega (arith, classes-long)) _ (gather-at p (classAt o p C) noClass k g ∙ sym (is-class k g))))
       ]
+
+  -- the sets that the slots name are the order's classes
+  pub passes-classes : Classes (settingOf o) (fansPresent o) p C
+  passes-classes = certified-classes o fit p C falling slots stand
 
   -- plan bytes that pass stand
   pub passes-stands : Stands o b

@@ -1,8 +1,8 @@
 -- Plan bytes that stand for the order pass the tests.
-use mathlib.Core.Path.{_∙_, _≡_, ap, fun-ext, refl, sym, subst}
-use mathlib.Core.Logic.{_⊎_, inl, inr}
+use mathlib.Core.Path.{_∙_, _≡_, ap, fun-ext, sym, subst}
+use mathlib.Core.Logic.{inl, inr}
 use mathlib.Core.List.{List}
-use Prim.Native.Nat.{ℕ, suc, _+_, _-_, _*_, _/_, _%_, _<_, _≤_}
+use Prim.Native.Nat.{ℕ, _+_, _-_, _*_, _/_, _%_, _<_, _≤_}
 use native.Mathlib.Nat.{mul-lt-mul-of-pos-left, mul-pos}
 use native.Mathlib.Omega.{arith}
 use lib.Dec.{T, eqb, eqb→eq}
@@ -10,12 +10,12 @@ use lib.ListN.{List·getD-eq-default, getD, length}
 use Rattle.model.specs.Sets.{Doses, sum}
 use Rattle.model.specs.Lists.{total}
 use Rattle.model.specs.Records.{read, recordAt}
-use Rattle.model.specs.Orders.{Order, doseAt}
-use Rattle.model.specs.Classes.{P, Row, Setting, W, classP, free}
+use Rattle.model.specs.Orders.{Order}
+use Rattle.model.specs.Classes.{P, Row, Setting, classP, free}
 use Rattle.model.specs.Intervals.{fansPresent, instantAt, instants, intervalCount, settingOf}
 use Rattle.model.specs.Layout.{classAt, classesOf}
 use Rattle.model.specs.Plans.{Class, Slot, planOf}
-use Rattle.model.specs.Stands.{EndsBy, InInterval, InOrder, Named, NoOverlap, Stands, ends, starts, unitsOf}
+use Rattle.model.specs.Stands.{EndsBy, InInterval, InOrder, Named, NoOverlap, Stands, unitsOf}
 use Rattle.model.specs.Stands as stands
 use Rattle.model.proofs.Sums.{sum-congr, sum-pos}
 use Rattle.model.proofs.Fractions.{compare≤}
@@ -27,7 +27,7 @@ use Rattle.model.proofs.Lists.{All-at, Pairs-at, length-singles, total-at}
 use Rattle.model.proofs.ValidShares.{class-open}
 use Rattle.model.proofs.DrawnLine.{class-of}
 use Rattle.model.proofs.PlanPieces.{noSlot}
-use Rattle.judge.specs.Tests.{ClassFits, ClassRow, InTurn, Leads, Numbers, Passes, Sheet, SheetOf, SlotFits, SlotLong, SlotRow, by-fan, by-interval, by-time, classIn, needIn, placeIn, setsOf, slotIn, unitsUpTo}
+use Rattle.judge.specs.Tests.{ClassFits, ClassRow, InTurn, Leads, Numbers, Passes, Sheet, SheetOf, SlotFits, SlotLong, SlotRow, by-fan, by-interval, by-time, classIn, placeIn, setsOf, slotIn, unitsUpTo}
 use Rattle.judge.proofs.Rows.{gather-at, noClass, plan-class, plan-length, plan-slot, read-rows, row-class, row-slot}
 use Rattle.judge.proofs.Places.{place-at, tick-before, tick-from}
 use Rattle.judge.proofs.Sheets.{instants-up, same-grams, same-size, same-time}

@@ -1,12 +1,12 @@
 -- W, P and free fans of the sets that the slots name, class by class.
-use mathlib.Core.Path.{_≡_, _∙_, ap, refl, sym}
+use mathlib.Core.Path.{_≡_, _∙_, ap, sym}
 use mathlib.Core.List.{List}
 use mathlib.Core.Bool.{Bool}
-use Prim.Native.Nat.{ℕ, suc, _+_, _-_, _*_, _<_, _≤_}
+use Prim.Native.Nat.{ℕ, _+_, _-_, _*_, _<_}
 use native.Mathlib.Numerals.{add-one}
 use native.Mathlib.Omega.{arith}
 use lib.ListN.{getD}
-use Rattle.model.specs.Sets.{Doses, sum, weight}
+use Rattle.model.specs.Sets.{sum, weight}
 use Rattle.model.specs.Classes.{P, W, classP, free, openFans}
 use Rattle.model.specs.Plans.{Class}
 use Rattle.model.proofs.Sums.{sum-congr}

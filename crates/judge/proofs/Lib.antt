@@ -10,3 +10,5 @@ pub mod FanTime
 pub mod Turns
 pub mod Totals
 pub mod Clauses
+pub mod OfOrder
+pub mod Unique

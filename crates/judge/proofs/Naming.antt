@@ -1,8 +1,8 @@
 -- The class numbers of the doses, slot by slot.
-use mathlib.Core.Path.{_≡_, _∙_, ap, refl, subst, sym}
+use mathlib.Core.Path.{_≡_, _∙_, ap, subst, sym}
 use mathlib.Core.Logic.{_≢_, inl, inr}
 use mathlib.Core.List.{List}
-use Prim.Native.Nat.{ℕ, suc, _+_, _/_, _<_, _≤_}
+use Prim.Native.Nat.{ℕ, _+_, _<_, _≤_}
 use native.Mathlib.Nat.{eq-or-lt-of-le}
 use native.Mathlib.Omega.{arith}
 use lib.ListN.{getD}

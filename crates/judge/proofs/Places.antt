@@ -1,18 +1,15 @@
 -- Where slots stand: the interval of a tick, the order of slots, and slots that do not overlap.
-use mathlib.Core.Path.{_∙_, _≡_, ap, refl, sym, subst}
-use mathlib.Core.Bool.{Bool, true, false}
-use mathlib.Core.Logic.{_⊎_, inl, inr}
+use mathlib.Core.Path.{_∙_, _≡_, ap}
+use mathlib.Core.Logic.{inl, inr}
 use mathlib.Core.List.{List}
 use Prim.Native.Nat.{ℕ, zero, suc, _+_, _-_, _*_, _<_, _≤_}
-use native.Mathlib.Nat.{eq-or-lt-of-le, le-of-lt, le-of-mul-le-mul-left, lt-of-mul-lt-mul-left, mul-le-mul-left, mul-le-mul-right, mul-lt-mul-of-pos-left}
+use native.Mathlib.Nat.{eq-or-lt-of-le, le-of-lt, le-of-mul-le-mul-left, mul-le-mul-left, mul-le-mul-right, mul-lt-mul-of-pos-left}
 use native.Mathlib.Numerals.{add-one}
 use native.Mathlib.Omega.{arith}
-use borrow.Author.Tests.{lt-ltb, le-ltb, ltb-true, ltb-false}
-use lib.Dec.{ltb}
+use borrow.Author.Tests.{lt-ltb, le-ltb}
 use lib.ListN.{getD}
-use Rattle.model.specs.Records.{pick}
 use Rattle.model.specs.Plans.{Slot}
-use Rattle.model.specs.Stands.{Between, EndsBy, NoOverlap, ends, starts}
+use Rattle.model.specs.Stands.{Between, EndsBy, ends, starts}
 use Rattle.model.proofs.Fractions.{compare≤}
 use Rattle.judge.specs.Tests.{InTurn, SlotLong, by-fan, by-interval, by-time, placeOf, scan}
 

@@ -1,22 +1,22 @@
 -- Plan bytes record by record: what planRecords reads, by the index of each record.
-use mathlib.Core.Path.{_∙_, _≡_, ap, refl, sym, subst}
+use mathlib.Core.Path.{_∙_, _≡_, ap, refl, subst}
 use mathlib.Core.Bool.{Bool, true, false}
 use mathlib.Core.Logic.{inl, inr}
 use mathlib.Core.List.{List, [], _∷_, _++_, map}
-use Prim.Native.Nat.{ℕ, zero, suc, _+_, _-_, _*_, _/_, _%_, _<_, _≤_}
-use native.Mathlib.Nat.{add-suc, add-zero}
+use Prim.Native.Nat.{ℕ, zero, suc, _+_, _-_, _/_, _%_, _<_}
+use native.Mathlib.Nat.{add-zero}
 use native.Mathlib.Omega.{arith}
 use borrow.Author.Tests.{eq-eqb, eqb-true}
-use lib.Dec.{T, eqb, eqb→eq}
+use lib.Dec.{eqb, eqb→eq}
 use lib.ListN.{List·getD-append, List·getD-map, getD, length, length-append, length-map}
 use lib.Seq.{getD-append-add}
-use Rattle.model.specs.Records.{Reading, andThen, blankAt, classParts, pick, read, readAll, readFrom, recordAt, refused, slotParts}
+use Rattle.model.specs.Records.{blankAt, classParts, pick, read, readAll, readFrom, recordAt, refused, slotParts}
 use Rattle.model.specs.Lists.{gather}
 use Rattle.model.specs.Plans.{Class, PlanRecord, Slot, classOf, classRecord, planOf, planRecordOf, planRecords, slotOf, slotRecord}
 use Rattle.model.proofs.Lists.{length-singles}
 use Rattle.model.proofs.Orders.{no-refusal, passed, went-on}
 use Rattle.model.proofs.Sums.{last}
-use Rattle.judge.specs.Tests.{ClassRow, SlotRow, classIn, slotIn}
+use Rattle.judge.specs.Tests.{ClassRow, SlotRow}
 
 -- what stands for a record past the last
 abbrev pub noRecord : PlanRecord

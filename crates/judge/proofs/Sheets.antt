@@ -1,16 +1,15 @@
 -- The arrays in which an order is held have its W, its open fan time and its instants.
-use mathlib.Core.Path.{_∙_, _≡_, ap, refl, sym}
-use mathlib.Core.Bool.{Bool, true, false}
+use mathlib.Core.Path.{_∙_, _≡_, ap, refl}
+use mathlib.Core.Bool.{Bool}
 use mathlib.Core.Logic.{inl, inr}
-use mathlib.Core.List.{List}
 use Prim.Native.Nat.{ℕ, zero, suc, _+_, _-_, _*_, _<_, _≤_}
 use native.Mathlib.Nat.{eq-or-lt-of-le}
 use native.Mathlib.Omega.{arith}
-use lib.ListN.{getD, length}
+use lib.ListN.{getD}
 use Rattle.model.specs.Sets.{Doses, on, sum, weight}
 use Rattle.model.specs.Orders.{Order}
-use Rattle.model.specs.Classes.{P, Row, Setting, W, classP, free, openFans}
-use Rattle.model.specs.Intervals.{fansPresent, instantAt, intervalCount, settingOf}
+use Rattle.model.specs.Classes.{P, Row, W, classP, free, openFans}
+use Rattle.model.specs.Intervals.{fansPresent, settingOf}
 use Rattle.model.proofs.Sums.{sum-congr}
 use Rattle.model.proofs.Sets.{weight-congr}
 use Rattle.model.proofs.Lists.{Pairs-at}

@@ -1,22 +1,19 @@
 -- What the slots of each dose come to, slot by slot.
 use mathlib.Core.Path.{_∙_, _≡_, ap, refl, sym}
-use mathlib.Core.Bool.{Bool, true, false}
 use mathlib.Core.Logic.{_⊎_, inl, inr}
 use mathlib.Core.List.{List}
-use Prim.Native.Nat.{ℕ, zero, suc, _+_, _-_, _*_, _/_, _<_, _≤_}
+use Prim.Native.Nat.{ℕ, suc, _+_, _-_, _*_, _<_, _≤_}
 use native.Mathlib.Nat.{eq-or-lt-of-le}
-use native.Mathlib.Numerals.{add-one}
 use native.Mathlib.Omega.{arith}
 use borrow.Author.Tests.{eq-eqb, ne-eqb}
-use lib.Dec.{eqb}
 use lib.ListN.{getD, length, set}
 use lib.Seq.{getD-set-other, getD-set-same}
-use Rattle.model.specs.Sets.{on, sum}
+use Rattle.model.specs.Sets.{sum}
 use Rattle.model.specs.Plans.{Slot}
 use Rattle.model.specs.Stands.{ends, starts, unitsOf}
 use Rattle.model.proofs.Sums.{sum-up}
 use Rattle.model.proofs.Fractions.{compare≤}
-use Rattle.judge.specs.Tests.{Counts, classIn, needIn, slotIn, unitsUpTo}
+use Rattle.judge.specs.Tests.{Counts, needIn, slotIn, unitsUpTo}
 
 module _ (plan : List ℕ) (p : ℕ) where
   units-none : (k : ℕ) → unitsUpTo plan p p k ≡ 0

@@ -1,19 +1,15 @@
 -- Slots in turn, and the slots of one interval, as the loops over them see it.
-use mathlib.Core.Path.{_∙_, _≡_, ap, refl, sym}
-use mathlib.Core.Bool.{Bool, true, false}
+use mathlib.Core.Path.{_≡_, ap, refl}
 use mathlib.Core.Logic.{inl, inr}
 use mathlib.Core.List.{List}
 use Prim.Native.Nat.{ℕ, zero, suc, _+_, _-_, _/_, _<_, _≤_}
 use native.Mathlib.Nat.{eq-or-lt-of-le}
 use native.Mathlib.Omega.{arith}
-use borrow.Author.Tests.{ltb-true, ltb-false}
-use lib.Dec.{ltb}
 use lib.ListN.{getD, length}
-use Rattle.model.specs.Records.{pick}
 use Rattle.model.specs.Plans.{Slot}
 use Rattle.model.specs.Stands.{EndsBy}
 use Rattle.model.proofs.Fractions.{compare≤}
-use Rattle.judge.specs.Tests.{Apart, ApartAfter, InTurn, Ready, by-fan, by-interval, by-time, placeIn, placeOf, scan, slotIn}
+use Rattle.judge.specs.Tests.{Apart, ApartAfter, InTurn, Ready, by-fan, by-interval, by-time, placeIn, scan, slotIn}
 use Rattle.judge.proofs.Places.{scan-none, scan-on, scan-stop}
 
 module _ {instants : List ℕ} {intervals : ℕ} {s u : Slot} where

@@ -5,10 +5,17 @@ mod rates; // rates.rt: W and P of the classes
 mod records; // records.rt: C and S records
 mod slots; // slots.rt: one slot
 mod small; // small.rt: steps on numbers
+mod top; // top.rt: refusal 9
 mod units; // units.rt: what the slots of a dose come to
 
-ghost use Prim.Native.Nat.{_/_, _≤_};
+use order::Order;
+ghost use Prim.Native.Nat.{_-_, _/_, _≤_};
+ghost use mathlib.Core.Path.{_≡_};
 ghost use lib.ListN.{length};
+ghost use Rattle.model.proofs.Orders.{Fit};
+ghost use Rattle.model.specs.Answers.{Judges};
+ghost use Rattle.order.specs.Held.{asOrder};
+ghost use Rattle.judge.specs.Verdict.{Certifies, asAnswer};
 ghost use Rattle.judge.specs.Tests.{Tells, RowsPass, Passes, Finds, sheet};
 
 // "C (0x43) class: 1 class number from 1; 2-3 doses in it; 4-7 W; 8-11 P"
@@ -37,6 +44,14 @@ pub struct Found {
     pub stands: bool,
     pub classes: usize,
     pub numbers: [u32; 24],
+}
+
+// What judging answers: the plan stands; the order's refusal 2 to 8 with its place; 9 with the first class as a set, its W and P; 10.
+pub enum Judged {
+    Stands,
+    Refused { number: u32, place: usize },
+    TooFast { set: u64, grams: u64, time: u64 },
+    Falls,
 }
 
 // What the records say by themselves and of the sets that the slots name.
@@ -151,4 +166,54 @@ fn find(
         classes: p,
         numbers,
     }
+}
+
+// Instants "bound the intervals".
+fn intervals_in(instants: usize) -> usize
+    ensures { λ r. ⌜ r ≡ instants - 1 ⌝ }
+{
+    if instants == 0 { 0 } else { instants - 1 }
+}
+
+// Whether plan bytes stand for an order: "no share is raised", and the cost grows with the plan's length.
+pub fn certify(o: Order, plan: &[u8]) -> Found
+    requires { ⌜ Fit (asOrder o) ⌝ }
+    ensures { λ r. ⌜ Certifies (asOrder o) (now (plan .entry)) (r .stands) (r .classes) (r .numbers) ⌝ }
+{
+    let s = interval::instants_of(o);
+    let intervals = intervals_in(s.count);
+    let release = o.release;
+    let deadline = o.deadline;
+    let grams = o.grams;
+    let instants = s.at;
+    find(
+        plan,
+        &release,
+        &deadline,
+        &grams,
+        &instants,
+        o.count,
+        intervals,
+        o.fans,
+    )
+}
+
+// "Drawing checks 2 to 9 in the same order, then 10 ..; judging stops after 10." Any bytes, of any length.
+pub fn judge(order: &[u8], plan: &[u8]) -> Judged
+    ensures { λ r. ⌜ Judges (now (order .entry)) (now (plan .entry)) (asAnswer r) ⌝ }
+{
+    let r = order::read_order(order);
+    if r.number != 0 {
+        return Judged::Refused {
+            number: r.number,
+            place: r.place,
+        };
+    }
+    let o = r.order;
+    let found = certify(o, plan);
+    if found.stands {
+        let numbers = found.numbers;
+        return top::against_top(o, plan, found.classes, numbers);
+    }
+    top::fallen(o)
 }

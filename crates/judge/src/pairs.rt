@@ -3,7 +3,6 @@ use crate::Slot;
 use crate::records::slot_at;
 use crate::slots::place_of;
 use crate::small::product;
-ghost use mathlib.Core.Path.{_≡_};
 ghost use Prim.Native.Nat.{ℕ, _+_, _/_, _<_, _≤_};
 ghost use lib.ListN.{length};
 ghost use Rattle.model.specs.Stands.{EndsBy};

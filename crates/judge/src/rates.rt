@@ -10,7 +10,7 @@ use crate::small::smaller;
 use crate::small::wide;
 ghost use mathlib.Core.Path.{_≡_};
 ghost use mathlib.Core.Bool.{_&&_};
-ghost use Prim.Native.Nat.{ℕ, _+_, _-_, _*_, _/_, _<_, _≤_, min};
+ghost use Prim.Native.Nat.{ℕ, _+_, _-_, _*_, _/_, _<_, _≤_};
 ghost use lib.Dec.{leb};
 ghost use lib.ListN.{length, getD};
 ghost use Rattle.model.specs.Sets.{sum, weight};
@@ -196,7 +196,12 @@ pub fn classes_fit(
 fn falls(c: Class, d: Class) -> bool
     ensures { λ t. ⌜ Tells t (Falls (asClass c) (asClass d)) ⌝ }
 {
-    product(d.grams, c.time) < product(c.grams, d.time)
+    let later = product(d.grams, c.time);
+    let earlier = product(c.grams, d.time);
+    if earlier <= later {
+        return false;
+    }
+    true
 }
 
 // "Class rates fall strictly from class to class."

@@ -7,7 +7,7 @@ ghost use lib.ListN.{length};
 ghost use Rattle.model.specs.Records.{recordAt};
 ghost use Rattle.model.specs.Plans.{classOf, slotOf};
 ghost use Rattle.judge.specs.Held.{asClass, asSlot};
-ghost use Rattle.judge.specs.Tests.{Tells, ClassRow, SlotRow, Leads, classIn, slotIn, kindAt};
+ghost use Rattle.judge.specs.Tests.{Tells, ClassRow, SlotRow, Leads, classIn, slotIn};
 
 fn class_in(r: &[u8]) -> Class
     requires { ⌜ length (now r) ≡ 32 ⌝ }

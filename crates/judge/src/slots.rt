@@ -6,12 +6,12 @@ use crate::records::slot_at;
 use crate::small::index;
 use crate::small::moment;
 ghost use mathlib.Core.Path.{_≡_};
-ghost use Prim.Native.Nat.{ℕ, _+_, _-_, _*_, _/_, _<_, _≤_};
+ghost use Prim.Native.Nat.{ℕ, _/_, _<_, _≤_};
 ghost use lib.ListN.{length, getD};
 ghost use Rattle.model.specs.Stands as stands;
-ghost use Rattle.model.specs.Stands.{Between, EndsBy, NoOverlap};
+ghost use Rattle.model.specs.Stands.{Between};
 ghost use Rattle.judge.specs.Held.{asClass, asSlot};
-ghost use Rattle.judge.specs.Tests.{Tells, SlotNames, SlotLong, SlotFits, InPlace, InTurn, Ready, Apart, placeOf, placeIn, slotIn, sheet};
+ghost use Rattle.judge.specs.Tests.{Tells, SlotNames, SlotLong, SlotFits, InPlace, placeOf, slotIn, sheet};
 
 pub fn starts(s: Slot) -> u64
     ensures { λ r. ⌜ r ≡ stands.starts (asSlot s) ⌝ }

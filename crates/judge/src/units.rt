@@ -1,5 +1,4 @@
 // "each dose's slots total w × P units".
-use crate::Slot;
 use crate::records::class_at;
 use crate::records::slot_at;
 use crate::slots::ends;
@@ -7,10 +6,9 @@ use crate::slots::starts;
 use crate::small::index;
 use crate::small::product;
 ghost use mathlib.Core.Path.{_≡_};
-ghost use Prim.Native.Nat.{ℕ, _-_, _*_, _/_, _<_, _≤_};
+ghost use Prim.Native.Nat.{ℕ, _/_, _<_, _≤_};
 ghost use lib.ListN.{length, getD};
-ghost use Rattle.judge.specs.Held.{asSlot};
-ghost use Rattle.judge.specs.Tests.{Tells, Counts, slotIn, classIn, unitsUpTo, needIn};
+ghost use Rattle.judge.specs.Tests.{Tells, Counts, slotIn, unitsUpTo, needIn};
 
 // The sums are what the doses need.
 fn all_met(
@@ -27,7 +25,9 @@ fn all_met(
     while k < doses {
         let number = index(numbers[k]);
         let c = class_at(plan, number - 1);
-        if sums[k] != product(grams[k], c.time) {
+        let sum = sums[k];
+        let need = product(grams[k], c.time);
+        if sum != need {
             return false;
         }
         k += 1;

@@ -1,19 +1,10 @@
-use Prim.Native.Nat.{ℕ}
+-- `all_pass` meets its contract: each test asks for one clause; later ones rest on earlier ones (Clauses).
 use Rattle.judge.specs.Tests.{sheet}
 use Rattle.judge.proofs.Tell.{tells-by, tells-not, tells-off, tells-was}
 use Rattle.judge.proofs.Clauses.{counts-of, ready-of}
 use native.Mathlib.Omega.{arith}
-use borrow.Author.Needs.{needs}
 use Rattle.judge.proofs.all_pass.Statement.{statement}
 use Rattle.judge.proofs.all_pass.Tie as tie
-use Rattle.judge.proofs.all_pass.Reads as reads
-use Rattle.judge.proofs.all_pass.Lts as lts
-use Rattle.judge.proofs.pairs.all_clear.Reads as all-clear-reads
-use Rattle.judge.proofs.pairs.all_in_turn.Reads as all-in-turn-reads
-use Rattle.judge.proofs.rates.classes_fit.Reads as classes-fit-reads
-use Rattle.judge.proofs.rows_pass.Reads as rows-pass-reads
-use Rattle.judge.proofs.slots.slots_fit.Reads as slots-fit-reads
-use Rattle.judge.proofs.units.units_met.Reads as units-met-reads
 
 rows-pass-requires : tie.Need-rows-pass-requires
 rows-pass-requires c κs = (c .before .pre .0, c .before .pre .1)

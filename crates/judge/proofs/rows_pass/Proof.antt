@@ -1,14 +1,9 @@
+-- `rows_pass` meets its contract: each test asks for one clause.
 use Rattle.judge.proofs.Tell.{tells-by, tells-not, tells-off, tells-was}
 use native.Mathlib.Omega.{arith}
 use borrow.Author.Needs.{needs}
 use Rattle.judge.proofs.rows_pass.Statement.{statement}
 use Rattle.judge.proofs.rows_pass.Tie as tie
-use Rattle.judge.proofs.rows_pass.Reads as reads
-use Rattle.judge.proofs.rows_pass.Lts as lts
-use Rattle.judge.proofs.numbers.numbered.Reads as numbered-reads
-use Rattle.judge.proofs.rates.rates_fall.Reads as rates-fall-reads
-use Rattle.judge.proofs.records.class_rows.Reads as class-rows-reads
-use Rattle.judge.proofs.records.slot_rows.Reads as slot-rows-reads
 
 returns : tie.Need-returns
 returns c = tells-off (λ h. omega (arith, h .whole, c .if1 .taken))

@@ -1,11 +1,8 @@
-use Prim.Native.Nat.{ℕ}
+-- `noted` meets its contract: one number changes, where there can be such a dose.
 use lib.Seq.{getD-set-other, getD-set-same}
-use native.Mathlib.Omega.{arith}
 use borrow.Author.Needs.{needs}
 use Rattle.judge.proofs.numbers.noted.Statement.{statement}
 use Rattle.judge.proofs.numbers.noted.Tie as tie
-use Rattle.judge.proofs.numbers.noted.Reads as reads
-use Rattle.judge.proofs.numbers.noted.Lts as lts
 
 returns : tie.Need-returns
 returns c = search needs

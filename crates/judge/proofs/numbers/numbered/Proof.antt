@@ -1,3 +1,4 @@
+-- `numbered` meets its contract: every dose passed has one of the p classes.
 use Prim.Native.Nat.{ℕ, _-_, _<_, _≤_}
 use lib.ListN.{getD}
 use borrow.Author.Count.{below-more}
@@ -6,9 +7,6 @@ use borrow.Author.Needs.{needs}
 use native.Mathlib.Omega.{arith}
 use Rattle.judge.proofs.numbers.numbered.Statement.{statement}
 use Rattle.judge.proofs.numbers.numbered.Tie as tie
-use Rattle.judge.proofs.numbers.numbered.Reads as reads
-use Rattle.judge.proofs.numbers.numbered.Lts as lts
-use Rattle.judge.proofs.small.index.Reads as index-reads
 
 abbrev Inv-loop : tie.InvT-loop
 Inv-loop numbers doses p k₀ k = (k ≤ doses) × ((i : ℕ) → i < k → (1 ≤ getD numbers i 0) × (getD numbers i 0 ≤ p))

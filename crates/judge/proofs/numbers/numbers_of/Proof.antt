@@ -1,16 +1,12 @@
-use mathlib.Core.Path.{_≡_, refl, subst}
-use Prim.Native.Nat.{ℕ, _-_, _/_, _<_, _≤_}
+-- `numbers_of` meets its contract: the numbers so far are those of the slots passed (Naming).
+use mathlib.Core.Path.{_≡_, refl}
+use Prim.Native.Nat.{_-_, _/_, _≤_}
 use lib.ListN.{length}
 use Rattle.judge.specs.Tests.{Numbers}
 use Rattle.judge.proofs.Naming.{numbers-more, numbers-none, numbers-to}
-use borrow.Author.Needs.{needs}
 use native.Mathlib.Omega.{arith}
 use Rattle.judge.proofs.numbers.numbers_of.Statement.{statement}
 use Rattle.judge.proofs.numbers.numbers_of.Tie as tie
-use Rattle.judge.proofs.numbers.numbers_of.Reads as reads
-use Rattle.judge.proofs.numbers.numbers_of.Lts as lts
-use Rattle.judge.proofs.numbers.noted.Reads as noted-reads
-use Rattle.judge.proofs.records.slot_at.Reads as slot-at-reads
 
 abbrev Inv-loop : tie.InvT-loop
 Inv-loop plan p m numbers₀ i₀ numbers i = (m ≡ length plan / 32) × (p ≤ i) × (i ≤ m) × Numbers plan p i numbers

@@ -1,5 +1,6 @@
+-- `all_clear` meets its contract: every slot passed is apart from all behind it.
 use mathlib.Core.Path.{_≡_, refl}
-use Prim.Native.Nat.{ℕ, _+_, _-_, _/_, _<_, _≤_}
+use Prim.Native.Nat.{ℕ, _-_, _/_, _<_, _≤_}
 use lib.ListN.{length}
 use borrow.Author.Count.{below-more}
 use Rattle.judge.specs.Tests.{ApartAfter}
@@ -8,9 +9,6 @@ use borrow.Author.Needs.{needs}
 use native.Mathlib.Omega.{arith}
 use Rattle.judge.proofs.pairs.all_clear.Statement.{statement}
 use Rattle.judge.proofs.pairs.all_clear.Tie as tie
-use Rattle.judge.proofs.pairs.all_clear.Reads as reads
-use Rattle.judge.proofs.pairs.all_clear.Lts as lts
-use Rattle.judge.proofs.pairs.clear_after.Reads as clear-after-reads
 
 abbrev Inv-loop : tie.InvT-loop
 Inv-loop plan p instants intervals m i₀ i = (m ≡ length plan / 32) × (p ≤ i) × ((k : ℕ) → k < i → p ≤ k → ApartAfter instants intervals plan k (length plan / 32))

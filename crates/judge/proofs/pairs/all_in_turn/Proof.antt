@@ -1,3 +1,4 @@
+-- `all_in_turn` meets its contract: every slot passed comes before the next.
 use mathlib.Core.Path.{_≡_, refl}
 use Prim.Native.Nat.{ℕ, _+_, _-_, _/_, _<_, _≤_}
 use lib.ListN.{length}
@@ -8,10 +9,6 @@ use borrow.Author.Needs.{needs}
 use native.Mathlib.Omega.{arith}
 use Rattle.judge.proofs.pairs.all_in_turn.Statement.{statement}
 use Rattle.judge.proofs.pairs.all_in_turn.Tie as tie
-use Rattle.judge.proofs.pairs.all_in_turn.Reads as reads
-use Rattle.judge.proofs.pairs.all_in_turn.Lts as lts
-use Rattle.judge.proofs.pairs.in_turn.Reads as in-turn-reads
-use Rattle.judge.proofs.records.slot_at.Reads as slot-at-reads
 
 abbrev Inv-loop : tie.InvT-loop
 Inv-loop plan p instants intervals m i₀ i = (m ≡ length plan / 32) × (p ≤ i) × (i ≤ m) × ((k : ℕ) → k < i → p ≤ k → InTurn instants intervals (slotIn plan k) (slotIn plan (k + 1)))

@@ -1,12 +1,9 @@
+-- `apart` meets its contract: one of the two ends by the other's start.
 use mathlib.Core.Logic.{inl, inr}
 use Rattle.judge.proofs.Tell.{tells-by, tells-on}
-use native.Mathlib.Omega.{arith}
 use borrow.Author.Needs.{needs}
 use Rattle.judge.proofs.pairs.apart.Statement.{statement}
 use Rattle.judge.proofs.pairs.apart.Tie as tie
-use Rattle.judge.proofs.pairs.apart.Reads as reads
-use Rattle.judge.proofs.pairs.apart.Lts as lts
-use Rattle.judge.proofs.pairs.ends_by.Reads as ends-by-reads
 
 returns : tie.Need-returns
 returns c = tells-on (record { clear = λ e. absurd (c .if1 .taken e) })

@@ -1,5 +1,6 @@
+-- `clear_after` meets its contract: every later slot passed is apart; one past the interval ends the search, since all behind it lie later (Turns).
 use mathlib.Core.Logic.{inl, inr}
-use mathlib.Core.Path.{_≡_, ap, refl, subst, sym}
+use mathlib.Core.Path.{_≡_, refl, subst, sym}
 use Prim.Native.Nat.{ℕ, _+_, _-_, _/_, _<_, _≤_}
 use lib.ListN.{getD, length}
 use Rattle.model.specs.Plans as plans
@@ -13,11 +14,6 @@ use borrow.Author.Needs.{needs}
 use native.Mathlib.Omega.{arith}
 use Rattle.judge.proofs.pairs.clear_after.Statement.{statement}
 use Rattle.judge.proofs.pairs.clear_after.Tie as tie
-use Rattle.judge.proofs.pairs.clear_after.Reads as reads
-use Rattle.judge.proofs.pairs.clear_after.Lts as lts
-use Rattle.judge.proofs.pairs.apart.Reads as apart-reads
-use Rattle.judge.proofs.records.slot_at.Reads as slot-at-reads
-use Rattle.judge.proofs.slots.place_of.Reads as place-of-reads
 
 abbrev Inv-loop : tie.InvT-loop
 Inv-loop plan p i instants intervals m s j end l₀ l = (m ≡ length plan / 32) × (i < l) × (l ≤ m) × ApartAfter instants intervals plan i l

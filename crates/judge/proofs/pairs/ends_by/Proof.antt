@@ -1,3 +1,4 @@
+-- `ends_by` meets its contract: ticks first, then products of parts (Places).
 use mathlib.Core.Path.{_≡_}
 use Rattle.judge.specs.Held.{asSlot}
 use Rattle.judge.proofs.Tell.{tells-leb, tells-off, tells-on}
@@ -6,9 +7,6 @@ use native.Mathlib.Omega.{arith}
 use borrow.Author.Needs.{needs}
 use Rattle.judge.proofs.pairs.ends_by.Statement.{statement}
 use Rattle.judge.proofs.pairs.ends_by.Tie as tie
-use Rattle.judge.proofs.pairs.ends_by.Reads as reads
-use Rattle.judge.proofs.pairs.ends_by.Lts as lts
-use Rattle.judge.proofs.small.product.Reads as product-reads
 
 returns : tie.Need-returns
 returns c = tells-on (ends-earlier (asSlot (c .before .before .before .args .s)) (asSlot (c .before .before .before .args .u)) (c .before .before .before .pre .0 .end-part) (c .before .before .before .pre .1 .start-part) (c .if1 .taken))

@@ -1,3 +1,4 @@
+-- `in_turn` meets its contract: the interval, then the fan, then the time.
 use mathlib.Core.Path.{_≡_}
 use Rattle.judge.specs.Held.{asSlot}
 use Rattle.judge.specs.Tests.{by-fan, by-interval, by-time, placeIn}
@@ -7,10 +8,6 @@ use native.Mathlib.Omega.{arith}
 use borrow.Author.Needs.{needs}
 use Rattle.judge.proofs.pairs.in_turn.Statement.{statement}
 use Rattle.judge.proofs.pairs.in_turn.Tie as tie
-use Rattle.judge.proofs.pairs.in_turn.Reads as reads
-use Rattle.judge.proofs.pairs.in_turn.Lts as lts
-use Rattle.judge.proofs.pairs.ends_by.Reads as ends-by-reads
-use Rattle.judge.proofs.slots.place_of.Reads as place-of-reads
 
 place-of-requires : tie.Need-place-of-requires
 place-of-requires c κs = search needs

@@ -1,6 +1,7 @@
+-- `active_in` meets its contract: the sum so far is the number of active doses of the set so far.
 use mathlib.Core.Bool.{Bool, _&&_}
-use mathlib.Core.Path.{_≡_, _∙_, ap, refl}
-use Prim.Native.Nat.{ℕ, _+_, _-_, _<_, _≤_}
+use mathlib.Core.Path.{_≡_, _∙_, ap}
+use Prim.Native.Nat.{ℕ, _+_, _-_, _≤_}
 use lib.Dec.{eqb, leb}
 use lib.ListN.{getD}
 use Rattle.model.specs.Sets.{on, weight}
@@ -10,11 +11,6 @@ use borrow.Author.Needs.{needs}
 use native.Mathlib.Omega.{arith}
 use Rattle.judge.proofs.rates.active_in.Statement.{statement}
 use Rattle.judge.proofs.rates.active_in.Tie as tie
-use Rattle.judge.proofs.rates.active_in.Reads as reads
-use Rattle.judge.proofs.rates.active_in.Lts as lts
-use Rattle.judge.proofs.small.both.Reads as both-reads
-use Rattle.judge.proofs.small.index.Reads as index-reads
-use Rattle.judge.proofs.small.on.Reads as on-reads
 
 abbrev Inv-loop : tie.InvT-loop
 Inv-loop numbers release deadline doses i from to sum₀ k₀ sum k = (k ≤ doses) × (sum ≡ weight k (λ k. on (leb (getD release k 0) from && leb to (getD deadline k 0)) 1) (setsOf numbers i)) × (sum ≤ k)

@@ -1,6 +1,6 @@
-use mathlib.Core.Path.{_≡_, _∙_, ap, refl}
-use Prim.Native.Nat.{ℕ, _+_, _-_, _<_, _≤_}
-use lib.ListN.{getD, getD-replicate}
+-- `classes_fit` meets its contract: every class passed fits, and the row has the fans that the classes passed leave (FanTime).
+use Prim.Native.Nat.{ℕ, _-_, _<_, _≤_}
+use lib.ListN.{getD-replicate}
 use borrow.Author.Count.{below-more}
 use Rattle.judge.specs.Tests.{ClassFits, classIn, sheet}
 use Rattle.judge.proofs.Tell.{tells-not, tells-off, tells-on, tells-was}
@@ -9,15 +9,6 @@ use borrow.Author.Needs.{needs}
 use native.Mathlib.Omega.{arith}
 use Rattle.judge.proofs.rates.classes_fit.Statement.{statement}
 use Rattle.judge.proofs.rates.classes_fit.Tie as tie
-use Rattle.judge.proofs.rates.classes_fit.Reads as reads
-use Rattle.judge.proofs.rates.classes_fit.Lts as lts
-use Rattle.judge.proofs.rates.fan_time.Reads as fan-time-reads
-use Rattle.judge.proofs.rates.free_after.Reads as free-after-reads
-use Rattle.judge.proofs.rates.grams_in.Reads as grams-in-reads
-use Rattle.judge.proofs.rates.open_row.Reads as open-row-reads
-use Rattle.judge.proofs.rates.says.Reads as says-reads
-use Rattle.judge.proofs.rates.size_in.Reads as size-in-reads
-use Rattle.judge.proofs.records.class_at.Reads as class-at-reads
 
 abbrev Inv-loop : tie.InvT-loop
 Inv-loop plan p numbers release deadline grams instants doses intervals fans all free₀ i₀ free i = (i ≤ p) × Frees (sheet doses intervals fans release deadline grams instants) numbers i free × ((k : ℕ) → k < i → ClassFits (sheet doses intervals fans release deadline grams instants) numbers k (classIn plan k))

@@ -1,5 +1,6 @@
-use mathlib.Core.Path.{_≡_, _∙_, ap, refl}
-use Prim.Native.Nat.{ℕ, _+_, _-_, _*_, _<_, _≤_}
+-- `fan_time` meets its contract: the sum so far is the fan time of the intervals passed.
+use mathlib.Core.Path.{_≡_, _∙_, ap}
+use Prim.Native.Nat.{ℕ, _+_, _-_, _*_, _≤_}
 use lib.ListN.{getD}
 use Rattle.model.specs.Sets.{sum}
 use Rattle.model.specs.Sets as sets
@@ -8,10 +9,6 @@ use borrow.Author.Needs.{needs}
 use native.Mathlib.Omega.{arith}
 use Rattle.judge.proofs.rates.fan_time.Statement.{statement}
 use Rattle.judge.proofs.rates.fan_time.Tie as tie
-use Rattle.judge.proofs.rates.fan_time.Reads as reads
-use Rattle.judge.proofs.rates.fan_time.Lts as lts
-use Rattle.judge.proofs.small.less.Reads as less-reads
-use Rattle.judge.proofs.small.wide.Reads as wide-reads
 
 abbrev Inv-loop : tie.InvT-loop
 Inv-loop instants intervals row sum₀ j₀ sum j = (j ≤ intervals) × (sum ≡ sets.sum j (λ j. (getD instants (j + 1) 0 - getD instants j 0) * getD row j 0)) × (sum ≤ j * 103079215080)

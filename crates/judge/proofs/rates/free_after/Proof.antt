@@ -1,14 +1,12 @@
+-- `free_after` meets its contract: every interval passed has what is left.
 use mathlib.Core.Path.{_≡_, refl}
-use Prim.Native.Nat.{ℕ, _+_, _-_, _<_, _≤_}
+use Prim.Native.Nat.{ℕ, _-_, _<_, _≤_}
 use lib.ListN.{getD, length}
 use Rattle.judge.proofs.Loops.{stored}
 use borrow.Author.Needs.{needs}
 use native.Mathlib.Omega.{arith}
 use Rattle.judge.proofs.rates.free_after.Statement.{statement}
 use Rattle.judge.proofs.rates.free_after.Tie as tie
-use Rattle.judge.proofs.rates.free_after.Reads as reads
-use Rattle.judge.proofs.rates.free_after.Lts as lts
-use Rattle.judge.proofs.small.less.Reads as less-reads
 
 abbrev Inv-loop : tie.InvT-loop
 Inv-loop free row left₀ j₀ left j = (length left ≡ 47) × (j ≤ 47) × ((k : ℕ) → k < j → getD left k 0 ≡ getD free k 0 - getD row k 0)

@@ -1,5 +1,6 @@
-use mathlib.Core.Path.{_≡_, ap, refl}
-use Prim.Native.Nat.{ℕ, _+_, _-_, _*_, _<_, _≤_}
+-- `grams_in` meets its contract: the sum so far is the weight of the set so far.
+use mathlib.Core.Path.{_≡_, ap}
+use Prim.Native.Nat.{ℕ, _+_, _-_, _*_, _≤_}
 use lib.Dec.{eqb}
 use lib.ListN.{getD}
 use Rattle.model.specs.Sets.{weight}
@@ -9,11 +10,6 @@ use borrow.Author.Needs.{needs}
 use native.Mathlib.Omega.{arith}
 use Rattle.judge.proofs.rates.grams_in.Statement.{statement}
 use Rattle.judge.proofs.rates.grams_in.Tie as tie
-use Rattle.judge.proofs.rates.grams_in.Reads as reads
-use Rattle.judge.proofs.rates.grams_in.Lts as lts
-use Rattle.judge.proofs.small.index.Reads as index-reads
-use Rattle.judge.proofs.small.on.Reads as on-reads
-use Rattle.judge.proofs.small.wide.Reads as wide-reads
 
 abbrev Inv-loop : tie.InvT-loop
 Inv-loop numbers grams doses i sum₀ k₀ sum k = (k ≤ doses) × (sum ≡ weight k (λ k. getD grams k 0) (setsOf numbers i)) × (sum ≤ k * 4294967295)

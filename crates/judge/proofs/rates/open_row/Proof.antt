@@ -1,6 +1,7 @@
+-- `open_row` meets its contract: every interval passed has its smaller number.
 use mathlib.Core.Bool.{_&&_}
 use mathlib.Core.Path.{_≡_, _∙_, ap, refl}
-use Prim.Native.Nat.{ℕ, _+_, _-_, _<_, _≤_, min}
+use Prim.Native.Nat.{ℕ, _+_, _-_, _≤_, min}
 use lib.Dec.{leb}
 use lib.ListN.{getD, length}
 use Rattle.model.specs.Sets.{on, weight}
@@ -10,10 +11,6 @@ use borrow.Author.Needs.{needs}
 use native.Mathlib.Omega.{arith}
 use Rattle.judge.proofs.rates.open_row.Statement.{statement}
 use Rattle.judge.proofs.rates.open_row.Tie as tie
-use Rattle.judge.proofs.rates.open_row.Reads as reads
-use Rattle.judge.proofs.rates.open_row.Lts as lts
-use Rattle.judge.proofs.rates.active_in.Reads as active-in-reads
-use Rattle.judge.proofs.small.smaller.Reads as smaller-reads
 
 abbrev Inv-loop : tie.InvT-loop
 Inv-loop numbers release deadline instants doses intervals i free row₀ j₀ row j = (length row ≡ 47) × (j ≤ intervals) × Opens numbers release deadline instants doses j i free row

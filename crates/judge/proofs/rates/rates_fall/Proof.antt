@@ -1,4 +1,4 @@
-use mathlib.Core.Path.{_≡_}
+-- `rates_fall` meets its contract: every class passed is faster than the next.
 use Prim.Native.Nat.{ℕ, _+_, _-_, _<_, _≤_}
 use borrow.Author.Count.{below-more}
 use Rattle.judge.specs.Tests.{Falls, classIn}
@@ -7,10 +7,6 @@ use borrow.Author.Needs.{needs}
 use native.Mathlib.Omega.{arith}
 use Rattle.judge.proofs.rates.rates_fall.Statement.{statement}
 use Rattle.judge.proofs.rates.rates_fall.Tie as tie
-use Rattle.judge.proofs.rates.rates_fall.Reads as reads
-use Rattle.judge.proofs.rates.rates_fall.Lts as lts
-use Rattle.judge.proofs.rates.falls.Reads as falls-reads
-use Rattle.judge.proofs.records.class_at.Reads as class-at-reads
 
 abbrev Inv-loop : tie.InvT-loop
 Inv-loop plan p i₀ i = (i ≤ p) × ((k : ℕ) → k < i → Falls (classIn plan k) (classIn plan (k + 1)))

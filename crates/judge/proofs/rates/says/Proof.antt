@@ -1,11 +1,9 @@
-use mathlib.Core.Path.{_≡_, sym}
+-- `says` meets its contract: each test asks for one field.
 use Rattle.judge.proofs.Tell.{tells-eqb, tells-off}
 use native.Mathlib.Omega.{arith}
 use borrow.Author.Needs.{needs}
 use Rattle.judge.proofs.rates.says.Statement.{statement}
 use Rattle.judge.proofs.rates.says.Tie as tie
-use Rattle.judge.proofs.rates.says.Reads as reads
-use Rattle.judge.proofs.rates.says.Lts as lts
 
 cast-if1 : tie.Need-cast-if1
 cast-if1 c = search needs

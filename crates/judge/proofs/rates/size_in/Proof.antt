@@ -1,5 +1,6 @@
+-- `size_in` meets its contract: the sum so far is the size of the set so far.
 use mathlib.Core.Path.{_≡_, ap, refl}
-use Prim.Native.Nat.{ℕ, _+_, _-_, _<_, _≤_}
+use Prim.Native.Nat.{ℕ, _+_, _-_, _≤_}
 use lib.Dec.{eqb}
 use Rattle.model.specs.Sets.{weight}
 use Rattle.judge.specs.Tests.{setsOf}
@@ -8,10 +9,6 @@ use borrow.Author.Needs.{needs}
 use native.Mathlib.Omega.{arith}
 use Rattle.judge.proofs.rates.size_in.Statement.{statement}
 use Rattle.judge.proofs.rates.size_in.Tie as tie
-use Rattle.judge.proofs.rates.size_in.Reads as reads
-use Rattle.judge.proofs.rates.size_in.Lts as lts
-use Rattle.judge.proofs.small.index.Reads as index-reads
-use Rattle.judge.proofs.small.on.Reads as on-reads
 
 abbrev Inv-loop : tie.InvT-loop
 Inv-loop numbers doses i sum₀ k₀ sum k = (k ≤ doses) × (sum ≡ weight k (λ k. 1) (setsOf numbers i)) × (sum ≤ k)

@@ -1,5 +1,4 @@
-use mathlib.Core.List.{List}
-use mathlib.Core.Path.{subst}
+-- `class_rows` meets its contract: every record passed has a C's kind and zeros.
 use Prim.Native.Nat.{ℕ, _-_, _<_, _≤_}
 use borrow.Author.Count.{below-more}
 use Rattle.model.specs.Records.{recordAt}
@@ -9,9 +8,6 @@ use borrow.Author.Needs.{needs}
 use native.Mathlib.Omega.{arith}
 use Rattle.judge.proofs.records.class_rows.Statement.{statement}
 use Rattle.judge.proofs.records.class_rows.Tie as tie
-use Rattle.judge.proofs.records.class_rows.Reads as reads
-use Rattle.judge.proofs.records.class_rows.Lts as lts
-use Rattle.judge.proofs.records.is_class.Reads as is-class-reads
 
 abbrev Inv-loop : tie.InvT-loop
 Inv-loop plan p i₀ i = (i ≤ p) × ((k : ℕ) → k < i → ClassRow (recordAt plan k))

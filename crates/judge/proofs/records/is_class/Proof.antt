@@ -1,11 +1,8 @@
+-- `is_class` meets its contract: the kind, then the bytes that must be zero.
 use Rattle.judge.proofs.Tell.{tells-class, tells-off}
-use native.Mathlib.Omega.{arith}
 use borrow.Author.Needs.{needs}
 use Rattle.judge.proofs.records.is_class.Statement.{statement}
 use Rattle.judge.proofs.records.is_class.Tie as tie
-use Rattle.judge.proofs.records.is_class.Reads as reads
-use Rattle.judge.proofs.records.is_class.Lts as lts
-use Rattle.field.proofs.blank.Reads as blank-reads
 
 shared-slice-read-if1 : tie.Need-shared-slice-read-if1
 shared-slice-read-if1 c = search needs

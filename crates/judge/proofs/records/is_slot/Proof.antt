@@ -1,11 +1,8 @@
+-- `is_slot` meets its contract: the kind, then the bytes that must be zero.
 use Rattle.judge.proofs.Tell.{tells-slot, tells-off}
-use native.Mathlib.Omega.{arith}
 use borrow.Author.Needs.{needs}
 use Rattle.judge.proofs.records.is_slot.Statement.{statement}
 use Rattle.judge.proofs.records.is_slot.Tie as tie
-use Rattle.judge.proofs.records.is_slot.Reads as reads
-use Rattle.judge.proofs.records.is_slot.Lts as lts
-use Rattle.field.proofs.blank.Reads as blank-reads
 
 shared-slice-read-if1 : tie.Need-shared-slice-read-if1
 shared-slice-read-if1 c = search needs

@@ -1,15 +1,13 @@
+-- `lead` meets its contract: every record passed is a C.
 use mathlib.Core.Path.{_≡_, refl, sym, _∙_}
 use Prim.Native.Nat.{ℕ, _-_, _/_, _<_, _≤_}
 use lib.ListN.{length}
-use borrow.Author.Count.{below-more, below-none}
+use borrow.Author.Count.{below-more}
 use Rattle.judge.specs.Tests.{kindAt}
 use Rattle.judge.proofs.Tell.{kind-at}
-use borrow.Author.Needs.{needs}
 use native.Mathlib.Omega.{arith}
 use Rattle.judge.proofs.records.lead.Statement.{statement}
 use Rattle.judge.proofs.records.lead.Tie as tie
-use Rattle.judge.proofs.records.lead.Reads as reads
-use Rattle.judge.proofs.records.lead.Lts as lts
 
 abbrev Inv-loop : tie.InvT-loop
 Inv-loop plan m i₀ i = (m ≡ length plan / 32) × (i ≤ m) × ((k : ℕ) → k < i → kindAt plan k ≡ 0x43)

@@ -1,3 +1,4 @@
+-- `slot_at` meets its contract: the part of the bytes that is lent is record i.
 use mathlib.Core.Path.{_∙_, ap}
 use mathlib.Core.List.{List}
 use Prim.Native.Nat.{ℕ}
@@ -8,9 +9,6 @@ use native.Mathlib.Omega.{arith}
 use borrow.Author.Needs.{needs}
 use Rattle.judge.proofs.records.slot_at.Statement.{statement}
 use Rattle.judge.proofs.records.slot_at.Tie as tie
-use Rattle.judge.proofs.records.slot_at.Reads as reads
-use Rattle.judge.proofs.records.slot_at.Lts as lts
-use Rattle.judge.proofs.records.slot_in.Reads as slot-in-reads
 
 mul-a : tie.Need-mul-a
 mul-a c = search needs

@@ -1,13 +1,8 @@
+-- `slot_in` meets its contract: the fields of an S record, each read at its place.
 use Rattle.model.specs.Records.{fieldsAt}
-use native.Mathlib.Omega.{arith}
 use borrow.Author.Needs.{needs}
 use Rattle.judge.proofs.records.slot_in.Statement.{statement}
 use Rattle.judge.proofs.records.slot_in.Tie as tie
-use Rattle.judge.proofs.records.slot_in.Reads as reads
-use Rattle.judge.proofs.records.slot_in.Lts as lts
-use Rattle.field.proofs.read16.Reads as read16-reads
-use Rattle.field.proofs.read32.Reads as read32-reads
-use Rattle.field.proofs.read8.Reads as read8-reads
 
 read8-requires : tie.Need-read8-requires
 read8-requires c κs = search needs

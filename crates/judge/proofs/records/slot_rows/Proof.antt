@@ -1,3 +1,4 @@
+-- `slot_rows` meets its contract: every record passed has an S's kind and zeros.
 use mathlib.Core.Path.{_≡_, refl}
 use Prim.Native.Nat.{ℕ, _-_, _/_, _<_, _≤_}
 use lib.ListN.{length}
@@ -9,9 +10,6 @@ use borrow.Author.Needs.{needs}
 use native.Mathlib.Omega.{arith}
 use Rattle.judge.proofs.records.slot_rows.Statement.{statement}
 use Rattle.judge.proofs.records.slot_rows.Tie as tie
-use Rattle.judge.proofs.records.slot_rows.Reads as reads
-use Rattle.judge.proofs.records.slot_rows.Lts as lts
-use Rattle.judge.proofs.records.is_slot.Reads as is-slot-reads
 
 abbrev Inv-loop : tie.InvT-loop
 Inv-loop plan p m i₀ i = (m ≡ length plan / 32) × (p ≤ i) × ((k : ℕ) → k < i → p ≤ k → SlotRow (recordAt plan k))

@@ -1,14 +1,9 @@
-use Prim.Native.Nat.{_*_, _+_, _≤_}
+-- `between` meets its contract: the two ends, by products with W.
 use Rattle.judge.proofs.Tell.{tells-leb, tells-off}
 use native.Mathlib.Omega.{arith}
 use borrow.Author.Needs.{needs}
 use Rattle.judge.proofs.slots.between.Statement.{statement}
 use Rattle.judge.proofs.slots.between.Tie as tie
-use Rattle.judge.proofs.slots.between.Reads as reads
-use Rattle.judge.proofs.slots.between.Lts as lts
-use Rattle.judge.proofs.slots.ends.Reads as ends-reads
-use Rattle.judge.proofs.slots.starts.Reads as starts-reads
-use Rattle.judge.proofs.small.moment.Reads as moment-reads
 
 starts-requires : tie.Need-starts-requires
 starts-requires c κs = search needs

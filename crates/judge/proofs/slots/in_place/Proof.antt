@@ -1,12 +1,9 @@
+-- `in_place` meets its contract: the interval of the start, then the two ends.
 use Rattle.judge.proofs.Tell.{tells-by, tells-off}
 use native.Mathlib.Omega.{arith}
 use borrow.Author.Needs.{needs}
 use Rattle.judge.proofs.slots.in_place.Statement.{statement}
 use Rattle.judge.proofs.slots.in_place.Tie as tie
-use Rattle.judge.proofs.slots.in_place.Reads as reads
-use Rattle.judge.proofs.slots.in_place.Lts as lts
-use Rattle.judge.proofs.slots.between.Reads as between-reads
-use Rattle.judge.proofs.slots.place_of.Reads as place-of-reads
 
 place-of-requires : tie.Need-place-of-requires
 place-of-requires c κs = search needs

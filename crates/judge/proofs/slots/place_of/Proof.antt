@@ -1,5 +1,6 @@
+-- `place_of` meets its contract: the search from the interval reached finds what the whole search finds.
 use mathlib.Core.Path.{_≡_, _∙_, sym}
-use Prim.Native.Nat.{ℕ, _+_, _-_, _<_, _≤_}
+use Prim.Native.Nat.{_+_, _-_, _≤_}
 use native.Mathlib.Nat.{sub-zero}
 use Rattle.judge.specs.Tests.{placeOf, scan}
 use Rattle.judge.proofs.Places.{scan-none, scan-on, scan-stop}
@@ -7,8 +8,6 @@ use borrow.Author.Needs.{needs}
 use native.Mathlib.Omega.{arith}
 use Rattle.judge.proofs.slots.place_of.Statement.{statement}
 use Rattle.judge.proofs.slots.place_of.Tie as tie
-use Rattle.judge.proofs.slots.place_of.Reads as reads
-use Rattle.judge.proofs.slots.place_of.Lts as lts
 
 abbrev Inv-loop : tie.InvT-loop
 Inv-loop instants intervals tick j₀ j = (j ≤ intervals) × (scan instants tick j (intervals - j) ≡ placeOf instants intervals tick)

@@ -1,3 +1,4 @@
+-- `slot_fits` meets its contract: each test asks for one clause.
 use mathlib.Core.Path.{_≡_, _∙_, ap}
 use Prim.Native.Nat.{ℕ, _-_}
 use lib.ListN.{getD}
@@ -8,14 +9,6 @@ use native.Mathlib.Omega.{arith}
 use borrow.Author.Needs.{needs}
 use Rattle.judge.proofs.slots.slot_fits.Statement.{statement}
 use Rattle.judge.proofs.slots.slot_fits.Tie as tie
-use Rattle.judge.proofs.slots.slot_fits.Reads as reads
-use Rattle.judge.proofs.slots.slot_fits.Lts as lts
-use Rattle.judge.proofs.records.class_at.Reads as class-at-reads
-use Rattle.judge.proofs.slots.between.Reads as between-reads
-use Rattle.judge.proofs.slots.in_place.Reads as in-place-reads
-use Rattle.judge.proofs.slots.slot_long.Reads as slot-long-reads
-use Rattle.judge.proofs.slots.slot_names.Reads as slot-names-reads
-use Rattle.judge.proofs.small.index.Reads as index-reads
 
 cast-k : tie.Need-cast-k
 cast-k c = search needs

@@ -1,12 +1,9 @@
+-- `slot_long` meets its contract: the two parts, then the two ends.
 use Rattle.judge.proofs.Tell.{tells-ltb, tells-off}
 use native.Mathlib.Omega.{arith}
 use borrow.Author.Needs.{needs}
 use Rattle.judge.proofs.slots.slot_long.Statement.{statement}
 use Rattle.judge.proofs.slots.slot_long.Tie as tie
-use Rattle.judge.proofs.slots.slot_long.Reads as reads
-use Rattle.judge.proofs.slots.slot_long.Lts as lts
-use Rattle.judge.proofs.slots.ends.Reads as ends-reads
-use Rattle.judge.proofs.slots.starts.Reads as starts-reads
 
 returns : tie.Need-returns
 returns c = tells-off (λ h. omega (arith, h .start-part, c .if1 .taken))

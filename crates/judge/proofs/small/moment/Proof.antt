@@ -1,10 +1,9 @@
+-- `moment` meets its contract: a product of two fields and a third fit 64 bits.
 use Rattle.judge.proofs.Tell.{product-fits}
 use native.Mathlib.Omega.{arith}
 use borrow.Author.Needs.{needs}
 use Rattle.judge.proofs.small.moment.Statement.{statement}
 use Rattle.judge.proofs.small.moment.Tie as tie
-use Rattle.judge.proofs.small.moment.Reads as reads
-use Rattle.judge.proofs.small.moment.Lts as lts
 
 mul-result : tie.Need-mul-result
 mul-result c = omega (arith, product-fits (c .args .tick) (c .args .grams) (c .args .part) (omega arith) (omega arith) (omega arith))

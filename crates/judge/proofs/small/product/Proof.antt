@@ -1,10 +1,9 @@
+-- `product` meets its contract: a product of two fields fits 64 bits.
 use Rattle.judge.proofs.Tell.{product-fits}
 use native.Mathlib.Omega.{arith}
 use borrow.Author.Needs.{needs}
 use Rattle.judge.proofs.small.product.Statement.{statement}
 use Rattle.judge.proofs.small.product.Tie as tie
-use Rattle.judge.proofs.small.product.Reads as reads
-use Rattle.judge.proofs.small.product.Lts as lts
 
 mul-result : tie.Need-mul-result
 mul-result c = omega (arith, product-fits (c .args .a) (c .args .b) 0 (omega arith) (omega arith) (omega arith))

@@ -1,5 +1,6 @@
+-- `all_met` meets its contract: the sum of every dose passed is its need.
 use mathlib.Core.Path.{_≡_, _∙_, ap, sym}
-use Prim.Native.Nat.{ℕ, _+_, _-_, _*_, _<_, _≤_}
+use Prim.Native.Nat.{ℕ, _-_, _*_, _<_, _≤_}
 use lib.ListN.{getD}
 use borrow.Author.Count.{below-more}
 use Rattle.model.specs.Plans as plans
@@ -9,11 +10,6 @@ use borrow.Author.Needs.{needs}
 use native.Mathlib.Omega.{arith}
 use Rattle.judge.proofs.units.all_met.Statement.{statement}
 use Rattle.judge.proofs.units.all_met.Tie as tie
-use Rattle.judge.proofs.units.all_met.Reads as reads
-use Rattle.judge.proofs.units.all_met.Lts as lts
-use Rattle.judge.proofs.records.class_at.Reads as class-at-reads
-use Rattle.judge.proofs.small.index.Reads as index-reads
-use Rattle.judge.proofs.small.product.Reads as product-reads
 
 abbrev Inv-loop : tie.InvT-loop
 Inv-loop plan numbers grams doses sums k₀ k = (k ≤ doses) × ((i : ℕ) → i < k → getD sums i 0 ≡ needIn grams plan numbers i)
@@ -39,11 +35,11 @@ sub-class-at c = omega (arith, c .index .ensures .0, c .before .before .before .
 class-at-requires : tie.Need-class-at-requires Inv-loop μ-loop
 class-at-requires c κs = omega (arith, c .index .ensures .0, c .before .before .before .before .before .pre .1 (c .before .before .before .loop .k) (omega arith) .0, c .before .before .before .before .before .pre .1 (c .before .before .before .loop .k) (omega arith) .1)
 
-mul-if1 : tie.Need-mul-if1 Inv-loop μ-loop
-mul-if1 c = search needs
+mul-sum : tie.Need-mul-sum Inv-loop μ-loop
+mul-sum c = search needs
 
-array-read-if1 : tie.Need-array-read-if1 Inv-loop μ-loop
-array-read-if1 c = search needs
+array-read-sum : tie.Need-array-read-sum Inv-loop μ-loop
+array-read-sum c = search needs
 
 mul-product : tie.Need-mul-product Inv-loop μ-loop
 mul-product c = search needs
@@ -93,8 +89,8 @@ all-met-spec =
     index-requires
     sub-class-at
     class-at-requires
-    mul-if1
-    array-read-if1
+    mul-sum
+    array-read-sum
     mul-product
     element-copy-out-product
     product-requires

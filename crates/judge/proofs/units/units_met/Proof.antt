@@ -1,22 +1,15 @@
+-- `units_met` meets its contract: the sums so far are those of the slots passed, none above its need (Totals).
 use mathlib.Core.Path.{_≡_, _∙_, ap, refl, sym}
-use Prim.Native.Nat.{ℕ, _+_, _-_, _/_, _<_, _≤_}
+use Prim.Native.Nat.{ℕ, _-_, _/_, _<_, _≤_}
 use lib.ListN.{getD, getD-replicate, length}
-use Rattle.model.specs.Plans as plans
 use Rattle.judge.specs.Held.{asSlot}
-use Rattle.judge.specs.Tests.{Counts, slotIn, unitsUpTo}
+use Rattle.judge.specs.Tests.{Counts, unitsUpTo}
 use Rattle.judge.proofs.Tell.{tells-by, tells-off}
 use Rattle.judge.proofs.Totals.{Summed, had-fits, over-need, summed-more, summed-none}
 use borrow.Author.Needs.{needs}
 use native.Mathlib.Omega.{arith}
 use Rattle.judge.proofs.units.units_met.Statement.{statement}
 use Rattle.judge.proofs.units.units_met.Tie as tie
-use Rattle.judge.proofs.units.units_met.Reads as reads
-use Rattle.judge.proofs.units.units_met.Lts as lts
-use Rattle.judge.proofs.records.slot_at.Reads as slot-at-reads
-use Rattle.judge.proofs.slots.ends.Reads as ends-reads
-use Rattle.judge.proofs.slots.starts.Reads as starts-reads
-use Rattle.judge.proofs.small.product.Reads as product-reads
-use Rattle.judge.proofs.units.all_met.Reads as all-met-reads
 
 abbrev Inv-loop : tie.InvT-loop
 Inv-loop plan p numbers grams doses m sums₀ i₀ sums i = (m ≡ length plan / 32) × (p ≤ i) × (i ≤ m) × (length sums ≡ 24) × Summed grams plan numbers doses p i sums
