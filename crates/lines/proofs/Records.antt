@@ -11,7 +11,7 @@ use lib.ListN.{length, getD, take, drop, length-append}
 use Rattle.model.specs.Lists.{gather}
 use Rattle.model.specs.Records.{pick, numberAt, fieldsAt, recordAt}
 use Rattle.model.specs.Plans.{Class, Slot, classOf, slotOf}
-use Rattle.lines.specs.Text.{Put, lineText, numbersText, classText, slotText, refusedText, recordText}
+use Rattle.lines.specs.Text.{Put, lineText, numbersText, classText, slotText, totalText, refusedText, recordText, recordsText, planText}
 use Rattle.lines.proofs.Puts.{numbers-length, put-none, put-more}
 
 -- ---- lengths
@@ -109,3 +109,28 @@ module _ (plan b₀ : List ℕ) where
   -- where the next line begins
   pub records-end : {b : List ℕ} {at : ℕ} (i : ℕ) → Put (gather i lineOf) b₀ 0 b at → at ≤ 160 * i
   records-end i h = omega (arith, h .next, records-length i)
+
+-- ---- whole texts
+
+-- a text of n records and the total is at most 160 × (n + 1) bytes
+pub plan-text-length : (plan : List ℕ) (classes slots : ℕ) → length (planText plan classes slots) ≤ 160 * (classes + slots + 1)
+unfolding planText totalText
+plan-text-length plan classes slots =
+    omega (
+      arith,
+      length-append (recordsText plan (classes + slots)) (totalText classes slots),
+      records-length plan [] (classes + slots),
+      line-length (116 ∷ 111 ∷ 116 ∷ 97 ∷ 108 ∷ []) (classes ∷ slots ∷ []),
+    )
+
+-- the line of a refusal is at most 160 bytes
+pub refused-length : (number place set grams time : ℕ) → length (refusedText number place set grams time) ≤ 160
+unfolding refusedText
+refused-length number place set grams time = go (eqb number 9)
+  where
+    word : List ℕ
+    word = 114 ∷ 101 ∷ 102 ∷ 117 ∷ 115 ∷ 101 ∷ 100 ∷ []
+
+    go : (t : Bool) → length (lineText word (pick t (number ∷ place ∷ set ∷ grams ∷ time ∷ []) (number ∷ place ∷ []))) ≤ 160
+    go true = omega (arith, line-length word (number ∷ place ∷ set ∷ grams ∷ time ∷ []))
+    go false = omega (arith, line-length word (number ∷ place ∷ []))
