@@ -1,0 +1,144 @@
+-- The arrays of an order, and what the tests over them tell of the order.
+use mathlib.Core.Bool.{Bool, true}
+use mathlib.Core.List.{List}
+use mathlib.Core.Path.{_≡_, refl, sym, ap, _∙_}
+use Prim.Native.Nat.{ℕ, _*_, _-_, _/_, _<_, _≤_}
+use native.Mathlib.Nat.{zero-add}
+use native.Mathlib.Omega.{arith}
+use borrow.Author.Tests.{eq-eqb, ne-eqb}
+use lib.Dec.{T, ltb→lt, lt→ltb}
+use lib.ListN.{length}
+use Rattle.model.specs.Sets.{Doses}
+use Rattle.model.specs.Records.{read, refused}
+use Rattle.model.specs.Orders.{noDose, doseAt, readOrder}
+use Rattle.model.specs.Orders as model
+use Rattle.model.specs.Intervals.{fansPresent, settingOf}
+use Rattle.model.specs.Classes.{P, W, free, remaining, setNumber}
+use Rattle.model.specs.Plans as plans
+use Rattle.model.specs.Answers.{Answer, FirstClass, aboveTop, tooFast}
+use Rattle.model.proofs.Orders.{Fit}
+use Rattle.model.proofs.Sets.{weight-alike}
+use Rattle.model.proofs.FanTime.{P-alike}
+use Rattle.model.proofs.NextClass.{next-unique}
+use Rattle.order.specs.declared.Order.{Order}
+use Rattle.order.specs.declared.Reading.{Reading}
+use Rattle.order.specs.Held.{ReadFrom, asOrder, doseHeld, dosesFrom}
+use Rattle.order.proofs.Columns.{run-at, run-length}
+use Rattle.interval.specs.declared.Instants.{Instants}
+use Rattle.interval.specs.Held.{InstantsOf}
+use Rattle.interval.proofs.Laws.{count-is, instant-is}
+use Rattle.judge.specs.Tests.{Finds, Passes, Sheet, SheetOf, classIn, setsOf, sheet}
+use Rattle.judge.specs.Verdict.{Against, Certifies, Leader, fast, slow}
+use Rattle.judge.proofs.Tell.{tells-by}
+use Rattle.judge.proofs.Sheets.{same-grams, same-time}
+use Rattle.judge.proofs.Certified.{passes-classes, passes-stands}
+use Rattle.judge.proofs.Complete.{stands-passes}
+
+module _ (o : Order) where
+  pub doses-is : o .count ≡ length (asOrder o .doses)
+  unfolding asOrder dosesFrom
+  doses-is = sym (run-length (doseHeld o) 0 (o .count))
+
+  fans-is : o .fans ≡ asOrder o .fans
+  unfolding asOrder
+  fans-is = refl
+
+  pub top-grams-is : o .«top_grams» ≡ asOrder o .topGrams
+  unfolding asOrder
+  top-grams-is = refl
+
+  pub top-seconds-is : o .«top_seconds» ≡ asOrder o .topSeconds
+  unfolding asOrder
+  top-seconds-is = refl
+
+  dose-is : (k : ℕ) → k < o .count → doseHeld o k ≡ doseAt (asOrder o) k
+  unfolding asOrder dosesFrom
+  dose-is k h = sym (run-at (doseHeld o) 0 (o .count) k noDose h ∙ ap (doseHeld o) (zero-add k))
+
+  -- an order that fits has few doses
+  pub few-doses : Fit (asOrder o) → o .count ≤ 24
+  few-doses fit = omega (arith, fit .few, doses-is)
+
+  -- its arrays hold it
+  pub holds : (s : Instants) → InstantsOf o s → (J : ℕ) → J ≡ s .count - 1
+      → SheetOf (asOrder o) (sheet (o .count) J (o .fans) (o .release) (o .deadline) (o .grams) (s .at))
+  holds s of J e = record {
+    doses = doses-is;
+    intervals = e ∙ ap (λ (n : ℕ). n - 1) (count-is o s of);
+    fans = fans-is;
+    release = λ k l. ap (λ (d : model.Dose). d .release) (dose-is k l);
+    deadline = λ k l. ap (λ (d : model.Dose). d .deadline) (dose-is k l);
+    grams = λ k l. ap (λ (d : model.Dose). d .grams) (dose-is k l);
+    instants = λ j l. instant-is o s of j;
+  }
+
+-- ---- the tests tell whether plan bytes stand, and the first class
+
+module _ (o : model.Order) (fit : Fit o) (h : Sheet) (sh : SheetOf o h) (plan : List ℕ) (p : ℕ) (numbers : List ℕ) where
+  leads : p ≤ length plan / 32 → Passes h plan p numbers → Leader o plan p numbers
+  unfolding remaining free
+  leads short q =
+      let c = passes-classes o fit h sh plan p numbers short q in
+      record {
+        short = short;
+        none = λ e A f. let r = f .some in c .done (r .0) (r .1) (rw e tt);
+        first = λ l. c .next 0 l;
+        grams = λ l. q .classes 0 l .grams ∙ same-grams o h sh (setsOf numbers 0);
+        time = λ l. q .classes 0 l .time ∙ same-time o h sh (setsOf numbers) 0;
+      }
+
+  pub certifies : (r : Bool) → Finds h plan p numbers r → Certifies o plan r p numbers
+  certifies r f = record {
+    tells = tells-by (f .tells) (passes-stands o fit h sh plan p numbers (f .leads .short)) (stands-passes o fit h sh plan p numbers (f .leads) (f .named));
+    leader = λ e. leads (f .leads .short) (f .tells .yes e);
+  }
+
+-- ---- the first class against the top rate
+
+module _ (o : model.Order) (other : Answer) (A : Doses) (f : FirstClass o A) where
+  -- any first class is this one
+  pub slow-if : W (settingOf o) A * o .topSeconds ≤ P (settingOf o) (fansPresent o) A * o .topGrams → Against o other other
+  slow-if l = slow (λ B g t.
+      let same = next-unique (settingOf o) (fansPresent o) (λ k. true) B A g f in
+      omega (
+        arith,
+        ltb→lt (P (settingOf o) (fansPresent o) B * o .topGrams) (W (settingOf o) B * o .topSeconds) t,
+        ap (λ (y : ℕ). y * o .topSeconds) (weight-alike (settingOf o .doses) (settingOf o .grams) B A same),
+        ap (λ (y : ℕ). y * o .topGrams) (P-alike (settingOf o) (fansPresent o) B A same),
+      ))
+
+-- an answer 9 for a first class
+pub fast-by : (o : model.Order) (other a : Answer) (A : Doses) → FirstClass o A → T (aboveTop o A) → a ≡ tooFast o A → Against o other a
+fast-by o other a A f t e = rw e (fast A f t)
+
+-- ---- as the plan's first record has it
+
+module _ (o : Order) (other : Answer) (plan : List ℕ) (p : ℕ) (numbers : List ℕ) (leader : Leader (asOrder o) plan p numbers) (l : 0 < p)
+    (c : plans.Class) (e : c ≡ classIn plan 0) where
+  abbrev A : Doses
+  A = setsOf numbers 0
+
+  grams-is : c .grams ≡ W (settingOf (asOrder o)) A
+  grams-is = ap (λ (x : plans.Class). x .grams) e ∙ leader .grams l
+
+  time-is : c .time ≡ P (settingOf (asOrder o)) (fansPresent (asOrder o)) A
+  time-is = ap (λ (x : plans.Class). x .time) e ∙ leader .time l
+
+  pub leader-slow : c .grams * o .«top_seconds» ≤ c .time * o .«top_grams» → Against (asOrder o) other other
+  leader-slow h = slow-if (asOrder o) other A (leader .first l) (rw (← grams-is, ← time-is, ← top-seconds-is o, ← top-grams-is o) h)
+
+  pub leader-fast : (set g t : ℕ) → set ≡ setNumber (o .count) A → g ≡ c .grams → t ≡ c .time → c .time * o .«top_grams» < c .grams * o .«top_seconds»
+      → Against (asOrder o) other (record { number = 9; place = 0; set = set; grams = g; time = t })
+  leader-fast set g t es eg et h =
+      fast-by (asOrder o) other _ A (leader .first l)
+      (lt→ltb (P (settingOf (asOrder o)) (fansPresent (asOrder o)) A * asOrder o .topGrams) (W (settingOf (asOrder o)) A * asOrder o .topSeconds)
+      (rw (← grams-is, ← time-is, ← top-seconds-is o, ← top-grams-is o) h))
+      (rw (es ∙ ap (λ (n : ℕ). setNumber n A) (doses-is o), eg ∙ grams-is, et ∙ time-is))
+
+-- ---- the order that was read
+
+pub read-refused : {bytes : List ℕ} {r : Reading} → ReadFrom bytes r → (r .number ≡ 0 → ⊥) → readOrder bytes ≡ refused (r .number) (r .place)
+read-refused {bytes} {r} f h = sym (f .says) ∙ rw (ne-eqb (r .number) 0 h)
+
+pub read-order-is : {bytes : List ℕ} {r : Reading} → ReadFrom bytes r → r .number ≡ 0 → readOrder bytes ≡ read (asOrder (r .order))
+read-order-is {bytes} {r} f h = sym (f .says) ∙ rw (eq-eqb (r .number) 0 h)

@@ -1,0 +1,41 @@
+-- The judge's answers as document 01 has them, and what its steps promise.
+use mathlib.Core.Path.{_≡_}
+use mathlib.Core.Bool.{Bool, true}
+use mathlib.Core.List.{List}
+use Prim.Native.Nat.{ℕ, _/_, _≤_, _<_}
+use lib.Dec.{T}
+use lib.ListN.{length}
+use Rattle.model.specs.Sets.{Doses}
+use Rattle.model.specs.Orders.{Order}
+use Rattle.model.specs.Classes.{W, P}
+use Rattle.model.specs.Intervals.{settingOf, fansPresent}
+use Rattle.model.specs.Stands.{Stands}
+use Rattle.model.specs.Answers.{Answer, FirstClass, aboveTop, done, refusal, tooFast}
+use Rattle.judge.specs.Tests.{Tells, classIn, setsOf}
+use Rattle.judge.specs.declared.Judged.{Judged}
+use Rattle.judge.specs.declared.Judged.the-variants as is
+
+-- "0 done"; the order's refusal 2 to 8; 9 with "the first class as a number with bit i for dose i, its W and P"; "10 plan bytes don't stand"
+abbrev pub asAnswer : Judged → Answer
+asAnswer is.Stands = done
+asAnswer (is.Refused number place) = refusal number place
+asAnswer (is.TooFast set grams time) = record { number = 9; place = 0; set = set; grams = grams; time = time }
+asAnswer is.Falls = refusal 10 0
+
+-- 9 where the order's first class is above the top rate, and `other` where it is not
+pub data Against (o : Order) (other : Answer) : Answer → Type 0 where
+  slow : ((A : Doses) → FirstClass o A → T (aboveTop o A) → ⊥) → Against o other other
+  fast : (A : Doses) → FirstClass o A → T (aboveTop o A) → Against o other (tooFast o A)
+
+-- the first of the p classes whose doses have these numbers, as the plan's first record has it
+pub record Leader (o : Order) (plan : List ℕ) (p : ℕ) (numbers : List ℕ) : Type 0 where
+  pub short : p ≤ length plan / 32
+  pub none : p ≡ 0 → (A : Doses) → FirstClass o A → ⊥
+  pub first : 0 < p → FirstClass o (setsOf numbers 0)
+  pub grams : 0 < p → classIn plan 0 .grams ≡ W (settingOf o) (setsOf numbers 0)
+  pub time : 0 < p → classIn plan 0 .time ≡ P (settingOf o) (fansPresent o) (setsOf numbers 0)
+
+-- whether plan bytes stand, and if so the first class
+pub record Certifies (o : Order) (plan : List ℕ) (stands : Bool) (p : ℕ) (numbers : List ℕ) : Type 0 where
+  pub tells : Tells stands (Stands o plan)
+  pub leader : stands ≡ true → Leader o plan p numbers

@@ -1,0 +1,219 @@
+// Whether plan bytes stand for an order (document 01, "A plan stands"). The plan is its own certificate: no share is raised.
+mod numbers; // numbers.rt: the class of each dose, as the slots name it
+mod pairs; // pairs.rt: two slots
+mod rates; // rates.rt: W and P of the classes
+mod records; // records.rt: C and S records
+mod slots; // slots.rt: one slot
+mod small; // small.rt: steps on numbers
+mod top; // top.rt: refusal 9
+mod units; // units.rt: what the slots of a dose come to
+
+use order::Order;
+ghost use Prim.Native.Nat.{_-_, _/_, _≤_};
+ghost use mathlib.Core.Path.{_≡_};
+ghost use lib.ListN.{length};
+ghost use Rattle.model.proofs.Orders.{Fit};
+ghost use Rattle.model.specs.Answers.{Judges};
+ghost use Rattle.order.specs.Held.{asOrder};
+ghost use Rattle.judge.specs.Verdict.{Certifies, asAnswer};
+ghost use Rattle.judge.specs.Tests.{Tells, RowsPass, Passes, Finds, sheet};
+
+// "C (0x43) class: 1 class number from 1; 2-3 doses in it; 4-7 W; 8-11 P"
+pub struct Class {
+    pub number: u32,
+    pub doses: u32,
+    pub grams: u32,
+    pub time: u32,
+}
+
+// "S (0x53) slot: 1 fan from 1; 2-3 dose; 4-7 start tick; 8-11 start part; 12-15 end tick; 16-19 end part; 20-23 W; 24-27 P; 28 class number"
+pub struct Slot {
+    pub fan: u32,
+    pub dose: u32,
+    pub start_tick: u32,
+    pub start_part: u32,
+    pub end_tick: u32,
+    pub end_part: u32,
+    pub grams: u32,
+    pub time: u32,
+    pub class: u32,
+}
+
+// Whether plan bytes stand, how many C records are in front, and the class number of each dose.
+pub struct Found {
+    pub stands: bool,
+    pub classes: usize,
+    pub numbers: [u32; 24],
+}
+
+// What judging answers: the plan stands; the order's refusal 2 to 8 with its place; 9 with the first class as a set, its W and P; 10.
+pub enum Judged {
+    Stands,
+    Refused { number: u32, place: usize },
+    TooFast { set: u64, grams: u64, time: u64 },
+    Falls,
+}
+
+// What the records say by themselves and of the sets that the slots name.
+fn rows_pass(plan: &[u8], p: usize, numbers: &[u32; 24], doses: usize) -> bool
+    requires { ⌜ (p ≤ length (now plan) / 32) × (doses ≤ 24) ⌝ }
+    ensures { λ t. ⌜ Tells t (RowsPass doses (now (plan .entry)) p (now (numbers .entry))) ⌝ }
+{
+    if plan.len() % 32 != 0 {
+        return false;
+    }
+    if doses < p {
+        return false;
+    }
+    if !records::class_rows(plan, p) {
+        return false;
+    }
+    if !records::slot_rows(plan, p) {
+        return false;
+    }
+    if !numbers::numbered(numbers, doses, p) {
+        return false;
+    }
+    rates::rates_fall(plan, p)
+}
+
+// Every clause of "A plan stands", of the sets that the slots name.
+fn all_pass(
+    plan: &[u8],
+    p: usize,
+    numbers: &[u32; 24],
+    release: &[u32; 24],
+    deadline: &[u32; 24],
+    grams: &[u32; 24],
+    instants: &[u32; 48],
+    doses: usize,
+    intervals: usize,
+    fans: u32,
+) -> bool
+    requires { ⌜ (p ≤ length (now plan) / 32) × (doses ≤ 24) × (intervals ≤ 47) ⌝ }
+    ensures { λ t. ⌜ Tells t (Passes (sheet doses intervals fans (now (release .entry)) (now (deadline .entry)) (now (grams .entry)) (now (instants .entry))) (now (plan .entry)) p (now (numbers .entry))) ⌝ }
+{
+    if !rows_pass(plan, p, numbers, doses) {
+        return false;
+    }
+    if !rates::classes_fit(
+        plan,
+        p,
+        numbers,
+        release,
+        deadline,
+        grams,
+        instants,
+        doses,
+        intervals,
+        fans,
+    ) {
+        return false;
+    }
+    if !slots::slots_fit(
+        plan,
+        p,
+        numbers,
+        release,
+        deadline,
+        grams,
+        instants,
+        doses,
+        intervals,
+        fans,
+    ) {
+        return false;
+    }
+    if !pairs::all_in_turn(plan, p, instants, intervals) {
+        return false;
+    }
+    if !pairs::all_clear(plan, p, instants, intervals) {
+        return false;
+    }
+    units::units_met(plan, p, numbers, grams, doses)
+}
+
+// The plan as its own certificate, for an order that is held in arrays.
+fn find(
+    plan: &[u8],
+    release: &[u32; 24],
+    deadline: &[u32; 24],
+    grams: &[u32; 24],
+    instants: &[u32; 48],
+    doses: usize,
+    intervals: usize,
+    fans: u32,
+) -> Found
+    requires { ⌜ (doses ≤ 24) × (intervals ≤ 47) ⌝ }
+    ensures { λ r. ⌜ Finds (sheet doses intervals fans (now (release .entry)) (now (deadline .entry)) (now (grams .entry)) (now (instants .entry))) (now (plan .entry)) (r .classes) (r .numbers) (r .stands) ⌝ }
+{
+    let p = records::lead(plan);
+    let numbers = numbers::numbers_of(plan, p);
+    let stands = all_pass(
+        plan,
+        p,
+        &numbers,
+        release,
+        deadline,
+        grams,
+        instants,
+        doses,
+        intervals,
+        fans,
+    );
+    Found {
+        stands,
+        classes: p,
+        numbers,
+    }
+}
+
+// Instants "bound the intervals".
+fn intervals_in(instants: usize) -> usize
+    ensures { λ r. ⌜ r ≡ instants - 1 ⌝ }
+{
+    if instants == 0 { 0 } else { instants - 1 }
+}
+
+// Whether plan bytes stand for an order: "no share is raised", and the cost grows with the plan's length.
+pub fn certify(o: Order, plan: &[u8]) -> Found
+    requires { ⌜ Fit (asOrder o) ⌝ }
+    ensures { λ r. ⌜ Certifies (asOrder o) (now (plan .entry)) (r .stands) (r .classes) (r .numbers) ⌝ }
+{
+    let s = interval::instants_of(o);
+    let intervals = intervals_in(s.count);
+    let release = o.release;
+    let deadline = o.deadline;
+    let grams = o.grams;
+    let instants = s.at;
+    find(
+        plan,
+        &release,
+        &deadline,
+        &grams,
+        &instants,
+        o.count,
+        intervals,
+        o.fans,
+    )
+}
+
+// "Drawing checks 2 to 9 in the same order, then 10 ..; judging stops after 10." Any bytes, of any length.
+pub fn judge(order: &[u8], plan: &[u8]) -> Judged
+    ensures { λ r. ⌜ Judges (now (order .entry)) (now (plan .entry)) (asAnswer r) ⌝ }
+{
+    let r = order::read_order(order);
+    if r.number != 0 {
+        return Judged::Refused {
+            number: r.number,
+            place: r.place,
+        };
+    }
+    let o = r.order;
+    let found = certify(o, plan);
+    if found.stands {
+        let numbers = found.numbers;
+        return top::against_top(o, plan, found.classes, numbers);
+    }
+    top::fallen(o)
+}

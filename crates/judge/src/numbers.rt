@@ -1,0 +1,58 @@
+// The class number of each dose, as the plan's own slots name it.
+use crate::records::slot_at;
+use crate::small::index;
+ghost use mathlib.Core.Path.{_≡_};
+ghost use mathlib.Core.Logic.{_≢_};
+ghost use Prim.Native.Nat.{ℕ, _/_, _<_, _≤_};
+ghost use lib.ListN.{length, getD};
+ghost use Rattle.judge.specs.Tests.{Tells, Numbers};
+
+// The number of one dose is noted, where there can be such a dose.
+fn noted(before: [u32; 24], dose: u32, class: u32) -> [u32; 24]
+    ensures own { λ r. ⌜ (dose < 24 → getD r dose 0 ≡ class) ⌝ }
+    ensures others { λ r. ⌜ ((k : ℕ) → k ≢ dose → getD r k 0 ≡ getD before k 0) ⌝ }
+{
+    let k = dose as usize;
+    if 24 <= k {
+        return before;
+    }
+    let mut numbers = before;
+    numbers[k] = class;
+    numbers
+}
+
+// "each slot names a dose of its class": the slots' own numbers, the last one of each dose.
+pub fn numbers_of(plan: &[u8], p: usize) -> [u32; 24]
+    requires { ⌜ p ≤ length (now plan) / 32 ⌝ }
+    ensures { λ r. ⌜ Numbers (now (plan .entry)) p (length (now (plan .entry)) / 32) r ⌝ }
+{
+    let m = plan.len() / 32;
+    let mut numbers = [0u32; 24];
+    let mut i = p;
+    while i < m {
+        let s = slot_at(plan, i);
+        let next = noted(numbers, s.dose, s.class);
+        numbers = next;
+        i += 1;
+    }
+    numbers
+}
+
+// Every dose has one of the p classes.
+pub fn numbered(numbers: &[u32; 24], doses: usize, p: usize) -> bool
+    requires { ⌜ doses ≤ 24 ⌝ }
+    ensures { λ t. ⌜ Tells t ((k : ℕ) → k < doses → (1 ≤ getD (now (numbers .entry)) k 0) × (getD (now (numbers .entry)) k 0 ≤ p)) ⌝ }
+{
+    let mut k = 0;
+    while k < doses {
+        let v = index(numbers[k]);
+        if v < 1 {
+            return false;
+        }
+        if p < v {
+            return false;
+        }
+        k += 1;
+    }
+    true
+}
