@@ -4,13 +4,14 @@ use mathlib.Core.List.{List}
 use Prim.Native.Nat.{ℕ}
 use Rattle.model.specs.Line.{dosing, finished, idle, shut}
 use Rattle.model.specs.Line as line
-use Rattle.model.specs.Answers.{Draws}
+use Rattle.model.specs.Answers.{Draws, Moves}
 use Rattle.model.specs.Answers as answers
-use Rattle.model.proofs.Answers.{draws-one}
-use Rattle.draw.specs.Drawing.{asDrawn, asState}
+use Rattle.model.proofs.Answers.{draws-one, moves-one}
+use Rattle.draw.specs.Drawing.{asDrawn, asPen, asState}
 use Rattle.draw.specs.declared.State.{State}
 use Rattle.draw.specs.declared.State.the-variants as is
 use Rattle.draw.specs.declared.Drawn.{Drawn}
+use Rattle.draw.specs.declared.Pen.{Pen}
 
 -- the structs, from what they say
 unfoldable heldState : line.State → State
@@ -46,3 +47,12 @@ drawn-one x y e = sym (drawn-back x) ∙ ap heldDrawn e ∙ drawn-back y
 -- point_at has one answer for each input
 pub points-once : (order plan : List ℕ) (dose tick : ℕ) (x y : Drawn) → Draws order plan dose tick (asDrawn x) → Draws order plan dose tick (asDrawn y) → x ≡ y
 points-once order plan dose tick x y a b = drawn-one x y (draws-one a b)
+
+abbrev heldPen : answers.Pen → Pen
+heldPen p = record { dose = p .dose; tick = p .tick }
+
+-- advance has one answer for each input, and leaves one pen
+pub pens-once : (order plan : List ℕ) (pen : Pen) (x y : Drawn) (to to′ : Pen) → Moves order plan (asPen pen) (asDrawn x) (asPen to)
+    → Moves order plan (asPen pen) (asDrawn y) (asPen to′) → (x ≡ y) × (to ≡ to′)
+pens-once order plan pen x y to to′ a b =
+    let e = moves-one a b in (drawn-one x y (e .0), ap heldPen (e .1))

@@ -19,6 +19,7 @@ use Rattle.draw.specs.declared.State.{State}
 use Rattle.draw.specs.declared.State.the-variants as is
 use Rattle.draw.specs.declared.Point.{Point}
 use Rattle.draw.specs.declared.Drawn.{Drawn}
+use Rattle.draw.specs.declared.Pen.{Pen}
 
 -- ---- points
 
@@ -37,6 +38,13 @@ answerOf number place set grams time = record { number = number; place = place; 
 
 abbrev pub asDrawn : Drawn → answers.Drawn
 asDrawn d = record { answer = answerOf (d .number) (d .place) (d .set) (d .grams) (d .time); point = asPoint (d .point) }
+
+-- a pen at a dose and a tick
+abbrev pub penAt : ℕ → ℕ → answers.Pen
+penAt dose tick = record { dose = dose; tick = tick }
+
+abbrev pub asPen : Pen → answers.Pen
+asPen p = penAt (p .dose) (p .tick)
 
 -- ---- one record of 32 bytes
 

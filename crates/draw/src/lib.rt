@@ -6,9 +6,11 @@ ghost use Rattle.model.specs.Records.{numberAt};
 ghost use Rattle.model.specs.Plans.{slotOf, slotsRead, planRecords};
 ghost use Rattle.model.specs.Stands.{starts, ends};
 ghost use Rattle.model.specs.Line.{unitsBefore, timeOf, fedAt, stateAt, pointAt};
-ghost use Rattle.model.specs.Answers.{noPoint, Draws};
+ghost use Rattle.model.specs.Answers.{noPoint, Draws, Moves};
 ghost use Rattle.order.specs.Held.{asOrder};
-ghost use Rattle.draw.specs.Drawing.{asState, asPoint, asDrawn, answerOf, ownSlot, unitsIn, feedsAt, Drawable, Sound};
+ghost use Rattle.judge.specs.Verdict.{asAnswer};
+ghost use Rattle.draw.specs.Drawing.{asState, asPoint, asDrawn, answerOf, asPen, penAt, ownSlot, unitsIn, feedsAt, Drawable, Sound};
+use judge::Judged;
 use order::Order;
 
 // "one of four states"; "Dosing carries the fan number"
@@ -33,6 +35,18 @@ pub struct Drawn {
     pub grams: u64,
     pub time: u64,
     pub point: Point,
+}
+
+// "it holds a dose and a tick"
+pub struct Pen {
+    pub dose: usize,
+    pub tick: u32,
+}
+
+// What a pen draws, and its tick behind it.
+struct Moved {
+    tick: u32,
+    drawn: Drawn,
 }
 
 fn wide(x: u32) -> u64
@@ -261,4 +275,65 @@ fn in_plan(order: &[u8], plan: &[u8], dose: usize, tick: u32) -> Drawn
         time: 0,
         point: p,
     }
+}
+
+// A verdict by its number, place and values, with no point.
+fn without_point(j: Judged) -> Drawn
+    ensures { λ d. ⌜ asDrawn d ≡ noPoint (asAnswer j) ⌝ }
+{
+    match j {
+        Judged::Stands => no_point(0, 0, 0, 0, 0),
+        Judged::Refused { number, place } => no_point(number, place, 0, 0, 0),
+        Judged::TooFast { set, grams, time } => no_point(9, 0, set, grams, time),
+        Judged::Falls => no_point(10, 0, 0, 0, 0),
+    }
+}
+
+// A dose's point at a tick: "Drawing checks 2 to 9 in the same order, then 10, 11, 12".
+pub fn point_at(order: &[u8], plan: &[u8], dose: usize, tick: u32) -> Drawn
+    ensures { λ d. ⌜ Draws (now (order .entry)) (now (plan .entry)) dose tick (asDrawn d) ⌝ }
+{
+    let j = judge::judge(order, plan);
+    let d = without_point(j);
+    if d.number != 0 {
+        return d;
+    }
+    in_plan(order, plan, dose, tick)
+}
+
+// The tick behind a pen's; from 604,800 on it is one that no drawing accepts.
+fn next_tick(tick: u32) -> u32
+    ensures { λ t. ⌜ t ≡ min tick 604800 + 1 ⌝ }
+{
+    if tick < 604800 {
+        return tick + 1;
+    }
+    604801
+}
+
+// "12 comes of the pen's tick before it moves", and a refusal leaves the tick as it was.
+fn move_on(order: &[u8], plan: &[u8], dose: usize, tick: u32) -> Moved
+    ensures { λ m. ⌜ Moves (now (order .entry)) (now (plan .entry)) (penAt dose tick) (asDrawn (m .drawn)) (penAt dose (m .tick)) ⌝ }
+{
+    let next = next_tick(tick);
+    let d = point_at(order, plan, dose, next);
+    if d.number != 0 {
+        return Moved {
+            tick: tick,
+            drawn: d,
+        };
+    }
+    Moved {
+        tick: next,
+        drawn: d,
+    }
+}
+
+// "The pen is lent and moved on by one tick"; "its answer is the point at the new tick".
+pub fn advance(order: &[u8], plan: &[u8], pen: &mut Pen) -> Drawn
+    ensures { λ d. ⌜ Moves (now (order .entry)) (now (plan .entry)) (asPen (now (pen .entry))) (asDrawn d) (asPen (now (pen .exit))) ⌝ }
+{
+    let m = move_on(order, plan, pen.dose, pen.tick);
+    pen.tick = m.tick;
+    m.drawn
 }

@@ -1,0 +1,19 @@
+use Rattle.draw.proofs.Drawings.{moves-by}
+use borrow.Author.Needs.{needs}
+use Rattle.draw.proofs.move_on.Statement.{statement}
+use Rattle.draw.proofs.move_on.Tie as tie
+
+next-tick-requires : tie.Need-next-tick-requires
+next-tick-requires c κs = search needs
+
+point-at-requires : tie.Need-point-at-requires
+point-at-requires c κs = search needs
+
+returns : tie.Need-returns
+returns c = moves-by (c .before .before .before .before .before .before .args .order .now) (c .before .before .before .before .before .before .args .plan .now) (c .before .before .before .before .before .before .args .dose) (c .before .before .before .before .before .before .args .tick) (c .before .before .before .next-tick .result) _ (c .before .before .before .next-tick .ensures) (c .before .before .point-at .ensures) .0 (c .if1 .taken)
+
+returns-2 : tie.Need-returns-2
+returns-2 c = moves-by (c .before .before .before .before .before .before .args .order .now) (c .before .before .before .before .before .before .args .plan .now) (c .before .before .before .before .before .before .args .dose) (c .before .before .before .before .before .before .args .tick) (c .before .before .before .next-tick .result) _ (c .before .before .before .next-tick .ensures) (c .before .before .point-at .ensures) .1 (c .if1 .left)
+
+pub move-on-spec : {M : Type 1} → statement M
+move-on-spec = tie.close (tie.spec next-tick-requires point-at-requires returns returns-2)

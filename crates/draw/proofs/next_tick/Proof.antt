@@ -1,0 +1,15 @@
+use native.Mathlib.Omega.{arith}
+use Rattle.draw.proofs.next_tick.Statement.{statement}
+use Rattle.draw.proofs.next_tick.Tie as tie
+
+add-result : tie.Need-add-result
+add-result c = omega arith
+
+returns : tie.Need-returns
+returns c = omega arith
+
+returns-2 : tie.Need-returns-2
+returns-2 c = omega arith
+
+pub next-tick-spec : {M : Type 1} → statement M
+next-tick-spec = tie.close (tie.spec add-result returns returns-2)

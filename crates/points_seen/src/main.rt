@@ -1,0 +1,161 @@
+// Points of P1 and P2 at the ticks that document 01 names, and the refusals 10, 11 and 12 at their edges.
+use draw::State;
+use libc::STDOUT_FILENO;
+ghost use Prim.Native.Nat.{_+_, _≤_};
+ghost use lib.ListN.{length};
+
+fn word(text: &[u8]) {
+    io::write_all(STDOUT_FILENO, text);
+}
+
+fn number(n: u32) {
+    io::print_decimal(STDOUT_FILENO, n as u64);
+    io::write_all(STDOUT_FILENO, b" ");
+}
+
+fn put_fans(b: &mut [u8], at: usize, fans: u32)
+    requires { ⌜ (at ≤ 4096) × (at + 32 ≤ length (now b)) ⌝ }
+{
+    field::put8(b, at, 0x46);
+    field::put8(b, at + 1, fans);
+    field::put32(b, at + 4, 1000);
+    field::put32(b, at + 8, 1);
+}
+
+fn put_dose(b: &mut [u8], at: usize, bay: u32, deadline: u32, grams: u32)
+    requires { ⌜ (at ≤ 4096) × (at + 32 ≤ length (now b)) ⌝ }
+{
+    field::put8(b, at, 0x44);
+    field::put16(b, at + 2, bay);
+    field::put32(b, at + 8, deadline);
+    field::put32(b, at + 12, grams);
+}
+
+fn put_class(b: &mut [u8], at: usize, class: u32, doses: u32, w: u32, p: u32)
+    requires { ⌜ (at ≤ 4096) × (at + 32 ≤ length (now b)) ⌝ }
+{
+    field::put8(b, at, 0x43);
+    field::put8(b, at + 1, class);
+    field::put16(b, at + 2, doses);
+    field::put32(b, at + 4, w);
+    field::put32(b, at + 8, p);
+}
+
+// A slot from one tick to another.
+fn put_slot(b: &mut [u8], at: usize, fan: u32, dose: u32, start: u32, end: u32)
+    requires { ⌜ (at ≤ 4096) × (at + 32 ≤ length (now b)) ⌝ }
+{
+    field::put8(b, at, 0x53);
+    field::put8(b, at + 1, fan);
+    field::put16(b, at + 2, dose);
+    field::put32(b, at + 4, start);
+    field::put32(b, at + 12, end);
+}
+
+// The class that a slot names.
+fn put_rate(b: &mut [u8], at: usize, w: u32, p: u32, class: u32)
+    requires { ⌜ (at ≤ 4096) × (at + 32 ≤ length (now b)) ⌝ }
+{
+    field::put32(b, at + 20, w);
+    field::put32(b, at + 24, p);
+    field::put8(b, at + 28, class);
+}
+
+fn show_state(s: State) {
+    match s {
+        State::Finished => word(b"finished\n"),
+        State::Shut => word(b"shut\n"),
+        State::Idle => word(b"idle\n"),
+        State::Dosing(fan) => {
+            word(b"dosing ");
+            number(fan);
+            word(b"\n");
+        }
+    }
+}
+
+// Number, amount, state.
+fn show(order: &[u8], plan: &[u8], dose: usize, tick: u32) {
+    let d = draw::point_at(order, plan, dose, tick);
+    number(d.number);
+    let p = d.point;
+    number(p.amount);
+    let s = p.state;
+    show_state(s);
+}
+
+// P1: one fan; [0,10) 20, [0,4) 16.
+fn first_order(b: &mut [u8; 96]) {
+    put_fans(b, 0, 1);
+    put_dose(b, 32, 1, 10, 20);
+    put_dose(b, 64, 2, 4, 16);
+}
+
+fn first_plan(p: &mut [u8; 128]) {
+    put_class(p, 0, 1, 1, 16, 4);
+    put_class(p, 32, 2, 1, 20, 6);
+    put_slot(p, 64, 1, 1, 0, 4);
+    put_rate(p, 64, 16, 4, 1);
+    put_slot(p, 96, 1, 0, 4, 10);
+    put_rate(p, 96, 20, 6, 2);
+}
+
+// P2: two fans; three of [0,3) 10.
+fn second_order(b: &mut [u8; 128]) {
+    put_fans(b, 0, 2);
+    put_dose(b, 32, 1, 3, 10);
+    put_dose(b, 64, 2, 3, 10);
+    put_dose(b, 96, 3, 3, 10);
+}
+
+fn second_plan(p: &mut [u8; 160]) {
+    put_class(p, 0, 1, 3, 30, 6);
+    put_slot(p, 32, 1, 0, 0, 2);
+    put_rate(p, 32, 30, 6, 1);
+    put_slot(p, 64, 1, 1, 2, 3);
+    put_rate(p, 64, 30, 6, 1);
+    put_slot(p, 96, 2, 1, 0, 1);
+    put_rate(p, 96, 30, 6, 1);
+    put_slot(p, 128, 2, 2, 1, 3);
+    put_rate(p, 128, 30, 6, 1);
+}
+
+fn first_points(b: &[u8; 96], p: &[u8; 128]) {
+    show(b, p, 0, 4);
+    show(b, p, 0, 5);
+    show(b, p, 0, 6);
+    show(b, p, 0, 7);
+    show(b, p, 0, 10);
+}
+
+// At the ends: the last tick and the one behind it, no such dose, and bytes that are no plan.
+fn edges(b: &[u8; 96], p: &[u8; 128]) {
+    show(b, p, 1, 604800);
+    show(b, p, 1, 604801);
+    show(b, p, 2, 604801);
+    show(b, b, 0, 0);
+}
+
+fn second_points(b: &[u8; 128], p: &[u8; 160]) {
+    show(b, p, 1, 0);
+    show(b, p, 1, 1);
+    show(b, p, 1, 2);
+    show(b, p, 1, 3);
+}
+
+fn main() {
+    let mut b = [0u8; 96];
+    first_order(&mut b);
+    let mut p = [0u8; 128];
+    first_plan(&mut p);
+    let mut c = [0u8; 128];
+    second_order(&mut c);
+    let mut q = [0u8; 160];
+    second_plan(&mut q);
+    word(b"P1\n");
+    first_points(&b, &p);
+    word(b"P2\n");
+    second_points(&c, &q);
+    word(b"edges\n");
+    edges(&b, &p);
+}
