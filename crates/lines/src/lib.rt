@@ -97,12 +97,11 @@ fn put_class(b: &mut [u8], at: usize, bytes: &[u8]) -> usize
     requires { ⌜ (length (now bytes) ≡ 32) × (at + 160 ≤ length (now b)) ⌝ }
     ensures { λ r. ⌜ Put (classText (classOf (now (bytes .entry)))) (now (b .entry)) at (now (b .exit)) r ⌝ }
 {
-    let numbers = [
-        one_byte(bytes, 1),
-        two_bytes(bytes, 2),
-        four_bytes(bytes, 4),
-        four_bytes(bytes, 8),
-    ];
+    let number = one_byte(bytes, 1);
+    let doses = two_bytes(bytes, 2);
+    let grams = four_bytes(bytes, 4);
+    let time = four_bytes(bytes, 8);
+    let numbers = [number, doses, grams, time];
     put_line(b, at, b"class", &numbers)
 }
 
@@ -111,15 +110,14 @@ fn put_slot(b: &mut [u8], at: usize, bytes: &[u8]) -> usize
     requires { ⌜ (length (now bytes) ≡ 32) × (at + 160 ≤ length (now b)) ⌝ }
     ensures { λ r. ⌜ Put (slotText (slotOf (now (bytes .entry)))) (now (b .entry)) at (now (b .exit)) r ⌝ }
 {
-    let numbers = [
-        one_byte(bytes, 1),
-        two_bytes(bytes, 2),
-        four_bytes(bytes, 4),
-        four_bytes(bytes, 8),
-        four_bytes(bytes, 12),
-        four_bytes(bytes, 16),
-        one_byte(bytes, 28),
-    ];
+    let fan = one_byte(bytes, 1);
+    let dose = two_bytes(bytes, 2);
+    let start_tick = four_bytes(bytes, 4);
+    let start_part = four_bytes(bytes, 8);
+    let end_tick = four_bytes(bytes, 12);
+    let end_part = four_bytes(bytes, 16);
+    let class = one_byte(bytes, 28);
+    let numbers = [fan, dose, start_tick, start_part, end_tick, end_part, class];
     put_line(b, at, b"slot", &numbers)
 }
 
