@@ -65,10 +65,6 @@ decimal-length (suc places) v = go (ltb v 10) refl (decimal-length places (v / 1
     go true e h = rw e (omega arith)
     go false e h = rw e (omega (arith, length-append (decimal places (v / 10)) ((48 + v % 10) ∷ [])))
 
--- so they end within them
-pub decimal-end : (places v : ℕ) {b b′ : List ℕ} {at e : ℕ} → Put (decimal places v) b at b′ e → e ≤ at + places
-decimal-end places v p = omega (arith, p .next, decimal-length places v)
-
 -- ---- numbers and words
 
 numbers-append : (xs : List ℕ) (y : ℕ) → numbersText (xs ++ (y ∷ [])) ≡ numbersText xs ++ numberText y

@@ -1,7 +1,7 @@
 use native.Mathlib.Omega.{arith}
 use borrow.Author.Needs.{needs}
-use Rattle.lines.proofs.Puts.{put-no-place, put-digit, put-last, decimal-end}
-use Prim.Native.Nat.{ℕ, _<_}
+use Rattle.lines.proofs.Puts.{put-no-place, put-digit, put-last, decimal-length}
+use Prim.Native.Nat.{ℕ, _-_, _/_, _<_}
 use borrow.Fn.Kinds.{In}
 use borrow.Fn.PlainCycle.{Measures, is, falls, and}
 use Rattle.lines.proofs.put_decimal.Reads as put-decimal
@@ -95,13 +95,13 @@ put-decimal-slice-write-b-2 : (t : ℕ) → put-decimal-lts.Need-slice-write-b-2
   put-decimal-below t,
   put-decimal.Post,
 ) (put-decimal-at t) put-decimal.Post
-put-decimal-slice-write-b-2 t c = omega (arith, decimal-end _ _ (c .before .before .put-decimal .ensures))
+put-decimal-slice-write-b-2 t c = let A = c .before .before .before .before .before .before .before .args in omega (arith, c .before .before .put-decimal .ensures .next, decimal-length (A .places - 1) (A .v / 10))
 
 put-decimal-add-result-2 : (t : ℕ) → put-decimal-lts.Need-add-result-2 (
   put-decimal-below t,
   put-decimal.Post,
 ) (put-decimal-at t) put-decimal.Post
-put-decimal-add-result-2 t c = omega (arith, decimal-end _ _ (c .before .before .put-decimal .ensures))
+put-decimal-add-result-2 t c = let A = c .before .before .before .before .before .before .before .args in omega (arith, c .before .before .put-decimal .ensures .next, decimal-length (A .places - 1) (A .v / 10))
 
 put-decimal-same-length-2 : (t : ℕ) → put-decimal-lts.Need-same-length-2 (
   put-decimal-below t,
