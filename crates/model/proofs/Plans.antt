@@ -212,10 +212,6 @@ module _ (classes : List Class) (slots : List Slot) (h : All NarrowClass classes
   pub plan-back : planRecords (recordsBytes (planOf classes slots)) ≡ read (planOf classes slots)
   plan-back = read-written (planOf classes slots) planned-narrow
 
-  -- with its slots
-  pub plan-slots : slotsRead (planRecords (recordsBytes (planOf classes slots))) ≡ slots
-  plan-slots = slots-read (recordsBytes (planOf classes slots)) classes slots plan-back
-
 -- a plan has a record for each class and each slot
 pub length-plan : (classes : List Class) (slots : List Slot) → length (recordsBytes (planOf classes slots)) ≡ 32 * (length classes + length slots)
 length-plan classes slots =

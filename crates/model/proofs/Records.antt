@@ -82,12 +82,6 @@ number-back (suc width) v rest h =
       number-back width (v / 256) rest small,
     )
 
--- also inside longer bytes
-pub number-back-at : (width v : ℕ) (pre rest : List ℕ) → v < 256 ^ width → numberAt (pre ++ (numberBytes width v ++ rest)) (length pre) width ≡ v
-number-back-at width v pre rest h =
-    number-same (pre ++ (numberBytes width v ++ rest)) (length pre) (numberBytes width v ++ rest) 0 width (same-behind pre (numberBytes width v ++ rest) (length pre) refl width)
-    ∙ number-back width v rest h
-
 -- bytes that are read are written again
 pub number-taken : (b : List ℕ) → Bytes b → (at width : ℕ) → at + width ≤ length b → numberBytes width (numberAt b at width) ≡ take width (drop at b)
 unfolding numberAt numberBytes
@@ -197,14 +191,6 @@ blank-back (past-blank {width} {parts} {values} f) rest =
     let zeros : numberAt (replicate width 0 ++ b) 0 width ≡ 0 = rw (number-zero width) at (number-back width 0 b (one-le-pow width 256 (omega arith))) in
     rw (append-assoc (replicate width 0) (recordBytes parts values) rest, zero-add, zeros)
     (blank-same parts (replicate width 0 ++ b) width b 0 (same-behind (replicate width 0) b width (length-zeros width) (sizeOf parts)) ∙ blank-back f rest)
-
--- the same inside longer bytes
-module _ {parts : List Part} {values : List ℕ} (f : Fits parts values) (pre rest : List ℕ) where
-  pub fields-back-at : fieldsAt parts (pre ++ (recordBytes parts values ++ rest)) (length pre) ≡ values
-  fields-back-at = fields-same parts _ _ _ 0 (same-behind pre (recordBytes parts values ++ rest) (length pre) refl (sizeOf parts)) ∙ fields-back f rest
-
-  pub blank-back-at : blankAt parts (pre ++ (recordBytes parts values ++ rest)) (length pre) ≡ true
-  blank-back-at = blank-same parts _ _ _ 0 (same-behind pre (recordBytes parts values ++ rest) (length pre) refl (sizeOf parts)) ∙ blank-back f rest
 
 -- fields that are read are written again, where the bytes that must be zero are
 pub fields-taken : (parts : List Part) (b : List ℕ) → Bytes b → (at : ℕ) → blankAt parts b at ≡ true → at + sizeOf parts ≤ length b

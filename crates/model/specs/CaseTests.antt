@@ -35,6 +35,7 @@ unfoldable pub everySet : ℕ → (List Bool → Bool) → Bool
 everySet zero f = f []
 everySet (suc n) f = everySet n (λ marks. f (false ∷ marks)) && everySet n (λ marks. f (true ∷ marks))
 
+-- the doses that are marked
 abbrev pub marked : List Bool → Doses
 marked marks k = getD marks k false
 
@@ -43,9 +44,11 @@ marked marks k = getD marks k false
 module _ (S : Setting) where
   open Setting S using (doses, intervals)
 
+  -- every dose of A is one of B
   unfoldable pub insideTest : Doses → Doses → Bool
   insideTest A B = allBelow doses (λ k. not (A k) || B k)
 
+  -- A has a dose
   unfoldable pub someTest : Doses → Bool
   someTest A = not (allBelow doses (λ k. not (A k)))
 
@@ -67,32 +70,39 @@ module _ (S : Setting) where
   unfoldable pub roomTest : Row → Doses → (ℕ → ℕ → ℕ) → ℕ → Bool
   roomTest row A x k = allBelow intervals (λ j. leb (x k j) (room S row A k j))
 
+  -- "The class's shares in an interval add up to exactly" the reserved time
   unfoldable pub fullTest : Row → Doses → (ℕ → ℕ → ℕ) → ℕ → Bool
   fullTest row A x j = eqb (given S row A x j) (holds S row A j)
 
+  -- a dose of A has its need
   unfoldable pub metTest : Row → Doses → (ℕ → ℕ → ℕ) → ℕ → Bool
   metTest row A x k = not (A k) || eqb (got S row A x k) (need S row A k)
 
+  -- all three
   unfoldable pub validTest : Row → Doses → (ℕ → ℕ → ℕ) → Bool
   validTest row A x = allBelow doses (roomTest row A x) && allBelow intervals (fullTest row A x) && allBelow doses (metTest row A x)
 
 -- ---- tests of equality
 
+-- two lists agree member by member
 unfoldable pub sameList : {A : Type 0} → (A → A → Bool) → List A → List A → Bool
 sameList same [] [] = true
 sameList same [] (b ∷ bs) = false
 sameList same (a ∷ as′) [] = false
 sameList same (a ∷ as′) (b ∷ bs) = same a b && sameList same as′ bs
 
+-- two C records agree field by field
 unfoldable pub sameClass : Class → Class → Bool
 sameClass a b = eqb (a .number) (b .number) && eqb (a .doses) (b .doses) && eqb (a .grams) (b .grams) && eqb (a .time) (b .time)
 
+-- two S records agree field by field
 unfoldable pub sameSlot : Slot → Slot → Bool
 sameSlot a b =
     (eqb (a .fan) (b .fan) && eqb (a .dose) (b .dose) && eqb (a .class) (b .class))
     && (eqb (a .startTick) (b .startTick) && eqb (a .startPart) (b .startPart) && eqb (a .endTick) (b .endTick) && eqb (a .endPart) (b .endPart))
     && (eqb (a .grams) (b .grams) && eqb (a .time) (b .time))
 
+-- two states agree
 unfoldable pub sameState : State → State → Bool
 sameState finished finished = true
 sameState finished shut = false
@@ -111,19 +121,23 @@ sameState (dosing f) shut = false
 sameState (dosing f) idle = false
 sameState (dosing f) (dosing g) = eqb f g
 
+-- two points agree
 unfoldable pub samePoint : Point → Point → Bool
 samePoint a b = eqb (a .amount) (b .amount) && sameState (a .state) (b .state)
 
+-- two answers agree
 unfoldable pub sameAnswer : Answer → Answer → Bool
 sameAnswer a b =
     eqb (a .number) (b .number) && eqb (a .place) (b .place) && (eqb (a .set) (b .set) && eqb (a .grams) (b .grams) && eqb (a .time) (b .time))
 
+-- a list has no member
 unfoldable pub emptyList : {A : Type 0} → List A → Bool
 emptyList [] = true
 emptyList (a ∷ l) = false
 
 -- ---- the test of a row
 
+-- the shares of a row
 abbrev pub caseShares : Case → ℕ → ℕ → ℕ → ℕ
 caseShares c i k j = getD (getD (getD (c .shares) i []) k []) j 0
 
@@ -142,6 +156,7 @@ module _ (o : Order) (c : Case) where
   unfoldable pub sharesTest : ℕ → Bool
   sharesTest i = validTest (settingOf o) (free (settingOf o) (fansPresent o) (caseSets c) i) (caseSets c i) (caseShares c i)
 
+  -- a point of the row is drawn
   unfoldable pub pointTest : Drawing → Bool
   pointTest d =
       leb (suc (d .dose)) (settingOf o .doses) && leb (d .tick) week && samePoint (pointAt o (c .slots) (d .dose) (d .tick)) (d .point)
@@ -171,6 +186,7 @@ module _ (o : Order) (c : Case) where
       (allBelow (length (c .sets)) classTest && allBelow (settingOf o .doses) doneTest && slowTest)
       && (allBelow (length (c .sets)) sharesTest && recordsTest) && (allIn pointTest (c .points) && sameAnswer done (c .answer))
 
+-- a row by what its order reads as
 unfoldable pub readingTest : Case → Reading Order → Bool
 readingTest c (refused number place) = sameAnswer (refusal number place) (c .answer) && not (eqb number 0) && nothingTest c
 readingTest c (read o) = pick (eqb (c .answer .number) 9) (fastTest o c) (planTest o c)

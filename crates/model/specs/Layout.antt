@@ -28,6 +28,7 @@ uncut C k a x = record { fan = a / C; dose = k; low = a % C; high = a % C + x }
 abbrev pub before : ℕ → ℕ → ℕ → ℕ → Piece
 before C k a x = record { fan = a / C; dose = k; low = a % C; high = C }
 
+-- what is behind the cut: from 0 of the next fan
 abbrev pub behind : ℕ → ℕ → ℕ → ℕ → Piece
 behind C k a x = record { fan = a / C + 1; dose = k; low = 0; high = a % C + x - C }
 
@@ -123,5 +124,6 @@ module _ (o : Order) (p : ℕ) (C : ℕ → Doses) where
     time = classP (settingOf o) (fansPresent o) C i;
   }
 
+  -- "classes by number"
   abbrev pub classesOf : List Class
   classesOf = gather p (λ i. classAt i ∷ [])
