@@ -44,9 +44,9 @@ pub struct Pen {
 }
 
 // What a pen draws, and its tick behind it.
-struct Moved {
-    tick: u32,
-    drawn: Drawn,
+pub struct Moved {
+    pub tick: u32,
+    pub drawn: Drawn,
 }
 
 fn wide(x: u32) -> u64
@@ -312,7 +312,7 @@ fn next_tick(tick: u32) -> u32
 }
 
 // "12 comes of the pen's tick before it moves", and a refusal leaves the tick as it was.
-fn move_on(order: &[u8], plan: &[u8], dose: usize, tick: u32) -> Moved
+pub fn move_on(order: &[u8], plan: &[u8], dose: usize, tick: u32) -> Moved
     ensures { λ m. ⌜ Moves (now (order .entry)) (now (plan .entry)) (penAt dose tick) (asDrawn (m .drawn)) (penAt dose (m .tick)) ⌝ }
 {
     let next = next_tick(tick);

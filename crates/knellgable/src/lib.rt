@@ -1,0 +1,157 @@
+// The four entry points for C and Rust: numbers and byte slices only. Each hands on what the proved function answers; include/knellgable.h
+// says the promises in words.
+ghost use mathlib.Core.Path.{_≡_};
+ghost use Rattle.model.specs.Answers.{Plans, Judges};
+ghost use Rattle.judge.specs.Verdict.{asAnswer};
+ghost use Rattle.draw.specs.Drawing.{answerOf, asState, asDrawn};
+ghost use Rattle.knellgable.specs.Exported.{asPlanned, asJudged, stateNumber, stateFan, Numbers, DrawsNumbers, MovesNumbers};
+use draw::State;
+
+// What planning answers: "Fields not meant are 0".
+#[repr(C)]
+pub struct Planned {
+    pub number: u32,
+    pub place: usize,
+    pub set: u64,
+    pub grams: u64,
+    pub time: u64,
+    pub classes: usize,
+    pub slots: usize,
+}
+
+// What judging answers: number and place, and of 9 the set, its W and P.
+#[repr(C)]
+pub struct Judged {
+    pub number: u32,
+    pub place: usize,
+    pub set: u64,
+    pub grams: u64,
+    pub time: u64,
+}
+
+// What drawing answers: the same, and the point, its state as a number: 0 Finished, 1 Shut, 2 Idle, 3 Dosing with its fan.
+#[repr(C)]
+pub struct Drawn {
+    pub number: u32,
+    pub place: usize,
+    pub set: u64,
+    pub grams: u64,
+    pub time: u64,
+    pub amount: u32,
+    pub state: u32,
+    pub fan: u32,
+}
+
+// An order planned into a lent buffer.
+#[no_mangle]
+pub extern "C" fn knellgable_plan(order: &[u8], plan: &mut [u8]) -> Planned
+    ensures { λ r. ⌜ Plans (now (order .entry)) (now (plan .entry)) (asPlanned r) (now (plan .exit)) ⌝ }
+{
+    let p = plan::plan(order, plan);
+    Planned {
+        number: p.number,
+        place: p.place,
+        set: p.set,
+        grams: p.grams,
+        time: p.time,
+        classes: p.classes,
+        slots: p.slots,
+    }
+}
+
+fn verdict(number: u32, place: usize, set: u64, grams: u64, time: u64) -> Judged
+    ensures { λ r. ⌜ asJudged r ≡ answerOf number place set grams time ⌝ }
+{
+    Judged {
+        number,
+        place,
+        set,
+        grams,
+        time,
+    }
+}
+
+fn verdict_of(j: judge::Judged) -> Judged
+    ensures { λ r. ⌜ asJudged r ≡ asAnswer j ⌝ }
+{
+    match j {
+        judge::Judged::Stands => verdict(0, 0, 0, 0, 0),
+        judge::Judged::Refused { number, place } => verdict(number, place, 0, 0, 0),
+        judge::Judged::TooFast { set, grams, time } => verdict(9, 0, set, grams, time),
+        judge::Judged::Falls => verdict(10, 0, 0, 0, 0),
+    }
+}
+
+// Whether plan bytes stand for an order.
+#[no_mangle]
+pub extern "C" fn knellgable_judge(order: &[u8], plan: &[u8]) -> Judged
+    ensures { λ r. ⌜ Judges (now (order .entry)) (now (plan .entry)) (asJudged r) ⌝ }
+{
+    let j = judge::judge(order, plan);
+    verdict_of(j)
+}
+
+fn state_number(s: State) -> u32
+    ensures { λ r. ⌜ r ≡ stateNumber (asState s) ⌝ }
+{
+    match s {
+        State::Finished => 0,
+        State::Shut => 1,
+        State::Idle => 2,
+        State::Dosing(_) => 3,
+    }
+}
+
+fn state_fan(s: State) -> u32
+    ensures { λ r. ⌜ r ≡ stateFan (asState s) ⌝ }
+{
+    match s {
+        State::Finished => 0,
+        State::Shut => 0,
+        State::Idle => 0,
+        State::Dosing(fan) => fan,
+    }
+}
+
+fn numbers_of(d: draw::Drawn) -> Drawn
+    ensures { λ r. ⌜ Numbers (asDrawn d) r ⌝ }
+{
+    let point = d.point;
+    let s = point.state;
+    let state = state_number(s);
+    let fan = state_fan(s);
+    Drawn {
+        number: d.number,
+        place: d.place,
+        set: d.set,
+        grams: d.grams,
+        time: d.time,
+        amount: point.amount,
+        state,
+        fan,
+    }
+}
+
+// A dose's point at a tick.
+#[no_mangle]
+pub extern "C" fn knellgable_point(order: &[u8], plan: &[u8], dose: usize, tick: u32) -> Drawn
+    ensures { λ r. ⌜ DrawsNumbers (now (order .entry)) (now (plan .entry)) dose tick r ⌝ }
+{
+    let d = draw::point_at(order, plan, dose, tick);
+    numbers_of(d)
+}
+
+// The pen as a dose and a lent tick, moved on by one.
+#[no_mangle]
+pub extern "C" fn knellgable_advance(
+    order: &[u8],
+    plan: &[u8],
+    dose: usize,
+    tick: &mut u32,
+) -> Drawn
+    ensures { λ r. ⌜ MovesNumbers (now (order .entry)) (now (plan .entry)) dose (now (tick .entry)) r (now (tick .exit)) ⌝ }
+{
+    let m = draw::move_on(order, plan, dose, *tick);
+    *tick = m.tick;
+    numbers_of(m.drawn)
+}
