@@ -1,0 +1,97 @@
+/* Knellgable: CO2 doses planned, judged and drawn, every number proved.
+ *
+ * The four functions of libknellgable.a. An order is any bytes, and so is a plan: the caller checks nothing beforehand, and every call gets
+ * one answer. Each function reads only the bytes it is lent, keeps none of them, allocates nothing and holds no state: calls on different
+ * memory may run at the same time.
+ *
+ * Records are 32 bytes, numbers least significant byte first, bytes not named zero:
+ *   F 0x46  1 fans; 4-7 top grams; 8-11 top seconds
+ *   D 0x44  2-3 bay; 4-7 release; 8-11 deadline; 12-15 grams
+ *   C 0x43  1 class number; 2-3 doses in it; 4-7 W; 8-11 P
+ *   S 0x53  1 fan; 2-3 dose; 4-7 start tick; 8-11 start part; 12-15 end tick; 16-19 end part; 20-23 W; 24-27 P; 28 class number
+ * An order is one F and up to 24 D; a plan is C records by number, then S records by interval, fan, start. A tick is one second, a part is
+ * 1/W of it. The rate of a class is W grams in P seconds of fan time.
+ *
+ * The number that comes back is 0, or the first of these that holds, in this sequence:
+ *    1  plan buffer under 47,392 bytes (planning only)
+ *    2  order length no multiple of 32, or over 1,600
+ *    3  kind in an order neither F nor D              } record by record,
+ *    4  a byte that must be zero isn't                } 3 before 4
+ *    5  a field out of range                          } before 5
+ *    6  F records not exactly one
+ *    7  more than 24 doses
+ *    8  two doses of one bay with overlapping windows
+ *    9  the first class is above the top rate: no plan within that rate exists
+ *   10  plan bytes don't stand for the order (judging and drawing)
+ *   11  no such dose (drawing)
+ *   12  tick over 604,800, or pen already at or past 604,800 (drawing)
+ * place is the record's index for 3, 4 and 5, that of the first D which overlaps an earlier one for 8, else 0. With 9 come the doses of the
+ * first class as a set (bit i for dose i), their grams W and their fan time P: they show that no plan exists. Fields not meant are 0.
+ */
+#ifndef KNELLGABLE_H
+#define KNELLGABLE_H
+
+#include <stddef.h>
+#include <stdint.h>
+
+#ifdef __cplusplus
+extern "C" {
+#endif
+
+/* The least plan buffer that planning takes: 24 classes and 1,457 slots. */
+#define KNELLGABLE_PLAN_ROOM 47392
+/* The last tick that is drawn. */
+#define KNELLGABLE_WEEK 604800
+
+/* States of a point. */
+#define KNELLGABLE_FINISHED 0 /* at or past the deadline */
+#define KNELLGABLE_SHUT 1     /* before the release; also with every refusal */
+#define KNELLGABLE_IDLE 2     /* inside the window, without a fan */
+#define KNELLGABLE_DOSING 3   /* fed by a fan */
+
+typedef struct {
+    uint32_t number;
+    size_t place;
+    uint64_t set, grams, time;
+    size_t classes, slots; /* C and S records written */
+} knellgable_planned;
+
+typedef struct {
+    uint32_t number;
+    size_t place;
+    uint64_t set, grams, time;
+} knellgable_judged;
+
+typedef struct {
+    uint32_t number;
+    size_t place;
+    uint64_t set, grams, time;
+    uint32_t amount; /* whole grams up to the tick */
+    uint32_t state;  /* one of the four above */
+    uint32_t fan;    /* of Dosing, from 1; else 0 */
+} knellgable_drawn;
+
+/* Plans an order into the lent buffer. 0: the buffer begins with `classes` C records and `slots` S records, and every byte behind them is as
+ * it was. The classes are the order's: again and again, among the doses left, the largest set with the greatest grams per second of fan time
+ * open to it. The slots deliver each dose exactly and inside its window, no fan and no dose is in two of them at one moment, and the plan
+ * stands. Which of the valid shares are laid into slots is the one thing left open. Refused: no byte changes. */
+knellgable_planned knellgable_plan(const uint8_t *order, size_t order_bytes, uint8_t *plan, size_t plan_bytes);
+
+/* Judges plan bytes of any length, whoever made them. 0 exactly if the order is accepted and the plan stands for it: the C records are the
+ * order's classes; each slot names a dose of its class, that class's W and P and an existing fan, and lies inside the dose's window and one
+ * interval; slots are in order; no two slots of a fan or of a dose overlap; each dose's slots total its grams. */
+knellgable_judged knellgable_judge(const uint8_t *order, size_t order_bytes, const uint8_t *plan, size_t plan_bytes);
+
+/* Draws a dose at a tick, in any plan that stands. 0: the amount is behind the exact one by less than a gram and never ahead; over h seconds
+ * it rises by less than h x rate + 1 gram, and not at all where the dose has no slot time; it is zero up to the release, and all the grams
+ * from the deadline on. An Idle dose waits only while every fan runs, each at that dose's rate or above. */
+knellgable_drawn knellgable_point(const uint8_t *order, size_t order_bytes, const uint8_t *plan, size_t plan_bytes, size_t dose, uint32_t tick);
+
+/* Moves a pen, a dose and a lent tick, on by one tick and draws the dose there. 12 comes of the tick before it moves. Refused: the tick stays. */
+knellgable_drawn knellgable_advance(const uint8_t *order, size_t order_bytes, const uint8_t *plan, size_t plan_bytes, size_t dose, uint32_t *tick);
+
+#ifdef __cplusplus
+}
+#endif
+
+#endif
