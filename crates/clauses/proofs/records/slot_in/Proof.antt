@@ -1,0 +1,51 @@
+-- `slot_in` meets its contract: the fields of an S record, each read at its place.
+use Rattle.model.specs.Records.{fieldsAt}
+use borrow.Author.Needs.{needs}
+use Rattle.clauses.proofs.records.slot_in.Statement.{statement}
+use Rattle.clauses.proofs.records.slot_in.Tie as tie
+
+read8-requires : tie.Need-read8-requires
+read8-requires c κs = search needs
+
+read16-requires : tie.Need-read16-requires
+read16-requires c κs = search needs
+
+read32-requires : tie.Need-read32-requires
+read32-requires c κs = search needs
+
+read32-requires-2 : tie.Need-read32-requires-2
+read32-requires-2 c κs = search needs
+
+read32-requires-3 : tie.Need-read32-requires-3
+read32-requires-3 c κs = search needs
+
+read32-requires-4 : tie.Need-read32-requires-4
+read32-requires-4 c κs = search needs
+
+read32-requires-5 : tie.Need-read32-requires-5
+read32-requires-5 c κs = search needs
+
+read32-requires-6 : tie.Need-read32-requires-6
+read32-requires-6 c κs = search needs
+
+read8-requires-2 : tie.Need-read8-requires-2
+read8-requires-2 c κs = search needs
+
+returns : tie.Need-returns
+unfolding fieldsAt
+returns c = cc
+
+pub slot-in-spec : {M : Type 1} → statement M
+slot-in-spec =
+    tie.close
+    (tie.spec
+    read8-requires
+    read16-requires
+    read32-requires
+    read32-requires-2
+    read32-requires-3
+    read32-requires-4
+    read32-requires-5
+    read32-requires-6
+    read8-requires-2
+    returns)
