@@ -40,6 +40,16 @@ module _ {P : Type 0} where
   pub tells-by : {Q : Type 0} {r : Bool} → Tells r Q → (Q → P) → (P → Q) → Tells r P
   tells-by t f g = record { yes = λ e. f (t .yes e); no = λ e h. t .no e (g h) }
 
+  -- two tests that tell of P answer the same
+  pub tells-one : {r s : Bool} → Tells r P → Tells s P → r ≡ s
+  tells-one {r} {s} t u = go r s refl refl
+    where
+      go : (a b : Bool) → r ≡ a → s ≡ b → r ≡ s
+      go true true e f = e ∙ sym f
+      go true false e f = absurd (u .no f (t .yes e))
+      go false true e f = absurd (t .no e (u .yes f))
+      go false false e f = e ∙ sym f
+
 -- ---- records
 
 and-true : (b : Bool) → (b && true) ≡ b

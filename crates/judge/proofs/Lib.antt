@@ -5,4 +5,4 @@ pub mod Complete
 pub mod Naming
 pub mod Clauses
 pub mod OfOrder
-pub mod Unique
+pub mod Verdicts
