@@ -17,6 +17,10 @@ Inv-loop plan p numbers grams doses m sums₀ i₀ sums i = (m ≡ length plan /
 abbrev μ-loop : tie.MeasureT-loop
 μ-loop plan p numbers grams doses m sums₀ i₀ sums i = m - i
 
+-- a record below the count is one of the plan's
+within : {i m n : ℕ} → m ≡ n → i < m → i < n
+within e l = omega arith
+
 loop-holds : tie.Need-loop-holds Inv-loop μ-loop
 loop-holds c = (refl, omega arith, omega arith, refl, summed-none _ _ _ _ _ _ (λ k l. getD-replicate 24 k 0 0 (omega arith)))
 
@@ -32,7 +36,7 @@ mul-had c = search needs
 array-read-had : tie.Need-array-read-had Inv-loop μ-loop
 array-read-had c =
     let A = c .before .before .before .before .before .args in
-    let k : Counts (A .doses) (A .plan .now) (A .numbers .now) (asSlot (c .before .slot-at .result)) = rw (c .before .slot-at .ensures) (c .before .before .before .before .before .pre .3 (c .before .before .before .loop .i) (omega arith) (omega arith)) in
+    let k : Counts (A .doses) (A .plan .now) (A .numbers .now) (asSlot (c .before .slot-at .result)) = rw (c .before .slot-at .ensures) (c .before .before .before .before .before .pre .3 (c .before .before .before .loop .i) (within (c .before .before .before .loop .inv .0) (c .before .before .loop-test .taken)) (c .before .before .before .loop .inv .1)) in
     omega (arith, k .dose, c .before .before .before .before .before .pre .0)
 
 mul-product : tie.Need-mul-product Inv-loop μ-loop
@@ -41,7 +45,7 @@ mul-product c = search needs
 element-copy-out-product : tie.Need-element-copy-out-product Inv-loop μ-loop
 element-copy-out-product c =
     let A = c .before .before .before .before .before .args in
-    let k : Counts (A .doses) (A .plan .now) (A .numbers .now) (asSlot (c .before .slot-at .result)) = rw (c .before .slot-at .ensures) (c .before .before .before .before .before .pre .3 (c .before .before .before .loop .i) (omega arith) (omega arith)) in
+    let k : Counts (A .doses) (A .plan .now) (A .numbers .now) (asSlot (c .before .slot-at .result)) = rw (c .before .slot-at .ensures) (c .before .before .before .before .before .pre .3 (c .before .before .before .loop .i) (within (c .before .before .before .loop .inv .0) (c .before .before .loop-test .taken)) (c .before .before .before .loop .inv .1)) in
     omega (arith, k .dose, c .before .before .before .before .before .pre .0)
 
 product-requires : tie.Need-product-requires Inv-loop μ-loop
@@ -56,14 +60,14 @@ starts-requires c κs = search needs
 sub-units : tie.Need-sub-units Inv-loop μ-loop
 sub-units c =
     let A = c .before .before .before .before .before .before .before .before .before .args in
-    let k : Counts (A .doses) (A .plan .now) (A .numbers .now) (asSlot (c .before .before .before .before .before .slot-at .result)) = rw (c .before .before .before .before .before .slot-at .ensures) (c .before .before .before .before .before .before .before .before .before .pre .3 (c .before .before .before .before .before .before .before .loop .i) (omega arith) (omega arith)) in
+    let k : Counts (A .doses) (A .plan .now) (A .numbers .now) (asSlot (c .before .before .before .before .before .slot-at .result)) = rw (c .before .before .before .before .before .slot-at .ensures) (c .before .before .before .before .before .before .before .before .before .pre .3 (c .before .before .before .before .before .before .before .loop .i) (within (c .before .before .before .before .before .before .before .loop .inv .0) (c .before .before .before .before .before .before .loop-test .taken)) (c .before .before .before .before .before .before .before .loop .inv .1)) in
     omega (arith, k .long, c .starts .ensures, c .before .ends .ensures)
 
 sub-if1 : tie.Need-sub-if1 Inv-loop μ-loop
 sub-if1 c =
     let A = c .before .before .before .before .before .before .before .before .before .args in
     let L = c .before .before .before .before .before .before .before .loop in
-    had-fits (A .grams .now) (A .plan .now) (A .numbers .now) (A .doses) (A .p) (L .i) (L .sums) (L .inv .4) (omega arith) (asSlot (c .before .before .before .before .before .slot-at .result)) (c .before .before .before .before .before .slot-at .ensures) (c .before .before .before .before .before .before .before .before .before .pre .3 (L .i) (omega arith) (omega arith)) (c .before .before .product .result) (c .before .before .product .ensures)
+    had-fits (A .grams .now) (A .plan .now) (A .numbers .now) (A .doses) (A .p) (L .i) (L .sums) (L .inv .4) (L .inv .1) (asSlot (c .before .before .before .before .before .slot-at .result)) (c .before .before .before .before .before .slot-at .ensures) (c .before .before .before .before .before .before .before .before .before .pre .3 (L .i) (within (L .inv .0) (c .before .before .before .before .before .before .loop-test .taken)) (L .inv .1)) (c .before .before .product .result) (c .before .before .product .ensures)
 
 returns : tie.Need-returns Inv-loop μ-loop
 returns c =
@@ -72,14 +76,14 @@ returns c =
     let a = c .before .starts .ensures in
     let b = c .before .before .ends .ensures in
     let t = c .if1 .taken in
-    tells-off (over-need (A .grams .now) (A .plan .now) (A .numbers .now) (A .doses) (A .p) (L .i) (L .sums) (L .inv .4) (omega arith) (asSlot (c .before .before .before .before .before .before .slot-at .result)) (c .before .before .before .before .before .before .slot-at .ensures) (c .before .before .before .before .before .before .before .before .before .before .pre .3 (L .i) (omega arith) (omega arith)) (c .before .before .before .product .result) (c .before .before .before .product .ensures) (omega arith) _ (omega arith))
+    tells-off (over-need (A .grams .now) (A .plan .now) (A .numbers .now) (A .doses) (A .p) (L .i) (L .sums) (L .inv .4) (L .inv .1) (asSlot (c .before .before .before .before .before .before .slot-at .result)) (c .before .before .before .before .before .before .slot-at .ensures) (c .before .before .before .before .before .before .before .before .before .before .pre .3 (L .i) (within (L .inv .0) (c .before .before .before .before .before .before .before .loop-test .taken)) (L .inv .1)) (c .before .before .before .product .result) (c .before .before .before .product .ensures) (omega arith) _ (omega arith))
 
 add-sums : tie.Need-add-sums Inv-loop μ-loop
 add-sums c =
     let A = c .before .before .before .before .before .before .before .before .before .before .args in
     let L = c .before .before .before .before .before .before .before .before .loop in
     let t = c .if1 .left in
-    let had = had-fits (A .grams .now) (A .plan .now) (A .numbers .now) (A .doses) (A .p) (L .i) (L .sums) (L .inv .4) (omega arith) (asSlot (c .before .before .before .before .before .before .slot-at .result)) (c .before .before .before .before .before .before .slot-at .ensures) (c .before .before .before .before .before .before .before .before .before .before .pre .3 (L .i) (omega arith) (omega arith)) (c .before .before .before .product .result) (c .before .before .before .product .ensures) in
+    let had = had-fits (A .grams .now) (A .plan .now) (A .numbers .now) (A .doses) (A .p) (L .i) (L .sums) (L .inv .4) (L .inv .1) (asSlot (c .before .before .before .before .before .before .slot-at .result)) (c .before .before .before .before .before .before .slot-at .ensures) (c .before .before .before .before .before .before .before .before .before .before .pre .3 (L .i) (within (L .inv .0) (c .before .before .before .before .before .before .before .loop-test .taken)) (L .inv .1)) (c .before .before .before .product .result) (c .before .before .before .product .ensures) in
     omega arith
 
 mul-sums : tie.Need-mul-sums Inv-loop μ-loop
@@ -88,7 +92,7 @@ mul-sums c = search needs
 array-write-sums : tie.Need-array-write-sums Inv-loop μ-loop
 array-write-sums c =
     let A = c .before .before .before .before .before .before .before .before .before .before .args in
-    let k : Counts (A .doses) (A .plan .now) (A .numbers .now) (asSlot (c .before .before .before .before .before .before .slot-at .result)) = rw (c .before .before .before .before .before .before .slot-at .ensures) (c .before .before .before .before .before .before .before .before .before .before .pre .3 (c .before .before .before .before .before .before .before .before .loop .i) (omega arith) (omega arith)) in
+    let k : Counts (A .doses) (A .plan .now) (A .numbers .now) (asSlot (c .before .before .before .before .before .before .slot-at .result)) = rw (c .before .before .before .before .before .before .slot-at .ensures) (c .before .before .before .before .before .before .before .before .before .before .pre .3 (c .before .before .before .before .before .before .before .before .loop .i) (within (c .before .before .before .before .before .before .before .before .loop .inv .0) (c .before .before .before .before .before .before .before .loop-test .taken)) (c .before .before .before .before .before .before .before .before .loop .inv .1)) in
     omega (arith, k .dose, c .before .before .before .before .before .before .before .before .before .before .pre .0)
 
 add-i : tie.Need-add-i Inv-loop μ-loop
@@ -104,13 +108,13 @@ loop-again c =
     let a = c .before .starts .ensures in
     let b = c .before .before .ends .ensures in
     let t = c .if1 .left in
-    let k : Counts (A .doses) (A .plan .now) (A .numbers .now) (asSlot (c .before .before .before .before .before .before .slot-at .result)) = rw (c .before .before .before .before .before .before .slot-at .ensures) (c .before .before .before .before .before .before .before .before .before .before .pre .3 (L .i) (omega arith) (omega arith)) in
-    let had = had-fits (A .grams .now) (A .plan .now) (A .numbers .now) (A .doses) (A .p) (L .i) (L .sums) (L .inv .4) (omega arith) (asSlot (c .before .before .before .before .before .before .slot-at .result)) (c .before .before .before .before .before .before .slot-at .ensures) (c .before .before .before .before .before .before .before .before .before .before .pre .3 (L .i) (omega arith) (omega arith)) (c .before .before .before .product .result) (c .before .before .before .product .ensures) in (
+    let k : Counts (A .doses) (A .plan .now) (A .numbers .now) (asSlot (c .before .before .before .before .before .before .slot-at .result)) = rw (c .before .before .before .before .before .before .slot-at .ensures) (c .before .before .before .before .before .before .before .before .before .before .pre .3 (L .i) (within (L .inv .0) (c .before .before .before .before .before .before .before .loop-test .taken)) (L .inv .1)) in
+    let had = had-fits (A .grams .now) (A .plan .now) (A .numbers .now) (A .doses) (A .p) (L .i) (L .sums) (L .inv .4) (L .inv .1) (asSlot (c .before .before .before .before .before .before .slot-at .result)) (c .before .before .before .before .before .before .slot-at .ensures) (c .before .before .before .before .before .before .before .before .before .before .pre .3 (L .i) (within (L .inv .0) (c .before .before .before .before .before .before .before .loop-test .taken)) (L .inv .1)) (c .before .before .before .product .result) (c .before .before .before .product .ensures) in (
       refl,
       omega arith,
       omega arith,
       search needs,
-      rw (a, b) (summed-more (A .grams .now) (A .plan .now) (A .numbers .now) (A .doses) (A .p) (L .i) (L .sums) (L .inv .4) (omega arith) (asSlot (c .before .before .before .before .before .before .slot-at .result)) (c .before .before .before .before .before .before .slot-at .ensures) (c .before .before .before .before .before .before .before .before .before .before .pre .3 (L .i) (omega arith) (omega arith)) (c .before .before .before .product .result) (c .before .before .before .product .ensures) (omega arith) (omega (arith, k .dose))),
+      rw (a, b) (summed-more (A .grams .now) (A .plan .now) (A .numbers .now) (A .doses) (A .p) (L .i) (L .sums) (L .inv .4) (L .inv .1) (asSlot (c .before .before .before .before .before .before .slot-at .result)) (c .before .before .before .before .before .before .slot-at .ensures) (c .before .before .before .before .before .before .before .before .before .before .pre .3 (L .i) (within (L .inv .0) (c .before .before .before .before .before .before .before .loop-test .taken)) (L .inv .1)) (c .before .before .before .product .result) (c .before .before .before .product .ensures) (omega arith) (omega (arith, k .dose))),
     )
 
 all-met-requires : tie.Need-all-met-requires Inv-loop μ-loop

@@ -18,7 +18,12 @@ read32-requires-2 c κs = search needs
 
 returns : tie.Need-returns
 unfolding fieldsAt
-returns c = cc
+returns c = λ i. record {
+  number = c .before .before .before .read8 .ensures .0 i;
+  doses = c .before .before .read16 .ensures .0 i;
+  grams = c .before .read32 .ensures .0 i;
+  time = c .read322 .ensures .0 i;
+}
 
 pub class-in-spec : {M : Type 1} → statement M
 class-in-spec =

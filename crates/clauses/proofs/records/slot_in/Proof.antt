@@ -33,7 +33,17 @@ read8-requires-2 c κs = search needs
 
 returns : tie.Need-returns
 unfolding fieldsAt
-returns c = cc
+returns c = λ i. record {
+  fan = c .before .before .before .before .before .before .before .before .read8 .ensures .0 i;
+  dose = c .before .before .before .before .before .before .before .read16 .ensures .0 i;
+  startTick = c .before .before .before .before .before .before .read32 .ensures .0 i;
+  startPart = c .before .before .before .before .before .read322 .ensures .0 i;
+  endTick = c .before .before .before .before .read323 .ensures .0 i;
+  endPart = c .before .before .before .read324 .ensures .0 i;
+  grams = c .before .before .read325 .ensures .0 i;
+  time = c .before .read326 .ensures .0 i;
+  class = c .read82 .ensures .0 i;
+}
 
 pub slot-in-spec : {M : Type 1} → statement M
 slot-in-spec =
