@@ -28,9 +28,9 @@ use Rattle.model.proofs.Orders.{Fit}
 use Rattle.model.proofs.Lists.{All-of, Pairs-of, length-singles, total-at}
 use Rattle.model.proofs.PlanPieces.{noSlot}
 use Rattle.model.proofs.Judging.{certified-classes, certified-stands}
-use Rattle.judge.specs.Tests.{InTurn, Passes, Sheet, SheetOf, SlotFits, by-fan, by-interval, by-time, classIn, placeIn, setsOf, slotIn, unitsUpTo}
+use Rattle.clauses.specs.Tests.{InTurn, Passes, Sheet, SheetOf, SlotFits, by-fan, by-interval, by-time, classIn, placeIn, setsOf, slotIn, unitsUpTo}
 use Rattle.judge.proofs.Rows.{class-row, gather-at, noClass, noRecord, plan-class, plan-length, plan-slot, rows-read, slot-row}
-use Rattle.judge.proofs.Places.{ends-apart, turns-all}
+use Rattle.slots.proofs.Places.{ends-apart, turns-all}
 use Rattle.judge.proofs.Sheets.{instants-up, same-grams, same-size, same-time}
 
 -- the slots from record i on, n of them

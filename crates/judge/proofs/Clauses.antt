@@ -2,9 +2,9 @@
 use mathlib.Core.List.{List}
 use Prim.Native.Nat.{ℕ, _+_, _/_, _<_, _≤_}
 use lib.ListN.{length}
-use Rattle.judge.specs.Tests.{Counts, InTurn, Ready, Sheet, SlotFits, slotIn}
-use Rattle.judge.proofs.Places.{turns-all}
-use Rattle.judge.proofs.Turns.{turn-place}
+use Rattle.clauses.specs.Tests.{Counts, InTurn, Ready, Sheet, SlotFits, slotIn}
+use Rattle.slots.proofs.Places.{turns-all}
+use Rattle.pairs.proofs.Turns.{turn-place}
 
 module _ (h : Sheet) (plan : List ℕ) (p : ℕ) (numbers : List ℕ)
     (slots : (i : ℕ) → i < length plan / 32 → p ≤ i → SlotFits h plan numbers (slotIn plan i)) where

@@ -1,14 +1,8 @@
-pub mod Tell
 pub mod Rows
-pub mod Places
 pub mod Sheets
 pub mod Certified
 pub mod Complete
 pub mod Naming
-pub mod Loops
-pub mod FanTime
-pub mod Turns
-pub mod Totals
 pub mod Clauses
 pub mod OfOrder
-pub mod Unique
+pub mod Verdicts

@@ -8,9 +8,9 @@ use native.Mathlib.Omega.{arith}
 use lib.ListN.{getD}
 use Rattle.model.specs.Plans as plans
 use Rattle.model.proofs.Fractions.{compare≤}
-use Rattle.judge.specs.declared.Slot.{Slot}
-use Rattle.judge.specs.Held.{asSlot}
-use Rattle.judge.specs.Tests.{Numbers, slotIn}
+use Rattle.clauses.specs.declared.Slot.{Slot}
+use Rattle.clauses.specs.Held.{asSlot}
+use Rattle.clauses.specs.Tests.{Numbers, slotIn}
 
 pub numbers-none : (b : List ℕ) (p : ℕ) (N : List ℕ) → Numbers b p p N
 numbers-none b p N = record { named = λ i l g d. absurd (omega arith) }

@@ -27,9 +27,9 @@ use Rattle.order.proofs.Columns.{run-at, run-length}
 use Rattle.interval.specs.declared.Instants.{Instants}
 use Rattle.interval.specs.Held.{InstantsOf}
 use Rattle.interval.proofs.Laws.{count-is, instant-is}
-use Rattle.judge.specs.Tests.{Finds, Passes, Sheet, SheetOf, classIn, setsOf, sheet}
+use Rattle.clauses.specs.Tests.{Finds, Passes, Sheet, SheetOf, classIn, setsOf, sheet}
 use Rattle.judge.specs.Verdict.{Against, Certifies, Leader, fast, slow}
-use Rattle.judge.proofs.Tell.{tells-by}
+use Rattle.clauses.proofs.Tell.{tells-by}
 use Rattle.judge.proofs.Sheets.{same-grams, same-time}
 use Rattle.judge.proofs.Certified.{passes-classes, passes-stands}
 use Rattle.judge.proofs.Complete.{stands-passes}

@@ -14,7 +14,7 @@ use Rattle.model.proofs.Sums.{sum-congr}
 use Rattle.model.proofs.Sets.{weight-congr}
 use Rattle.model.proofs.Lists.{Pairs-at}
 use Rattle.model.proofs.Intervals.{instants-sorted}
-use Rattle.judge.specs.Tests.{Sheet, SheetOf, fansIn, settingIn}
+use Rattle.clauses.specs.Tests.{Sheet, SheetOf, fansIn, settingIn}
 
 module _ (o : Order) (h : Sheet) (sh : SheetOf o h) where
   same-weight : (v w : ℕ → ℕ) (A : Doses) → ((k : ℕ) → k < h .doses → v k ≡ w k) → weight (h .doses) v A ≡ weight (settingOf o .doses) w A

@@ -1,13 +1,8 @@
 // Whether plan bytes stand for an order (document 01, "A plan stands"). The plan is its own certificate: no share is raised.
 mod numbers; // numbers.rt: the class of each dose, as the slots name it
-mod pairs; // pairs.rt: two slots
-mod rates; // rates.rt: W and P of the classes
-mod records; // records.rt: C and S records
-mod slots; // slots.rt: one slot
-mod small; // small.rt: steps on numbers
 mod top; // top.rt: refusal 9
-mod units; // units.rt: what the slots of a dose come to
 
+use clauses::records;
 use order::Order;
 ghost use Prim.Native.Nat.{_-_, _/_, _≤_};
 ghost use mathlib.Core.Path.{_≡_};
@@ -16,28 +11,7 @@ ghost use Rattle.model.proofs.Orders.{Fit};
 ghost use Rattle.model.specs.Answers.{Judges};
 ghost use Rattle.order.specs.Held.{asOrder};
 ghost use Rattle.judge.specs.Verdict.{Certifies, asAnswer};
-ghost use Rattle.judge.specs.Tests.{Tells, RowsPass, Passes, Finds, sheet};
-
-// "C (0x43) class: 1 class number from 1; 2-3 doses in it; 4-7 W; 8-11 P"
-pub struct Class {
-    pub number: u32,
-    pub doses: u32,
-    pub grams: u32,
-    pub time: u32,
-}
-
-// "S (0x53) slot: 1 fan from 1; 2-3 dose; 4-7 start tick; 8-11 start part; 12-15 end tick; 16-19 end part; 20-23 W; 24-27 P; 28 class number"
-pub struct Slot {
-    pub fan: u32,
-    pub dose: u32,
-    pub start_tick: u32,
-    pub start_part: u32,
-    pub end_tick: u32,
-    pub end_part: u32,
-    pub grams: u32,
-    pub time: u32,
-    pub class: u32,
-}
+ghost use Rattle.clauses.specs.Tests.{Tells, RowsPass, Passes, Finds, sheet};
 
 // Whether plan bytes stand, how many C records are in front, and the class number of each dose.
 pub struct Found {

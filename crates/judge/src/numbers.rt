@@ -1,11 +1,11 @@
 // The class number of each dose, as the plan's own slots name it.
-use crate::records::slot_at;
-use crate::small::index;
+use clauses::records::slot_at;
+use clauses::small::index;
 ghost use mathlib.Core.Path.{_≡_};
 ghost use mathlib.Core.Logic.{_≢_};
 ghost use Prim.Native.Nat.{ℕ, _/_, _<_, _≤_};
 ghost use lib.ListN.{length, getD};
-ghost use Rattle.judge.specs.Tests.{Tells, Numbers};
+ghost use Rattle.clauses.specs.Tests.{Tells, Numbers};
 
 // The number of one dose is noted, where there can be such a dose.
 fn noted(before: [u32; 24], dose: u32, class: u32) -> [u32; 24]

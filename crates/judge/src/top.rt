@@ -1,9 +1,9 @@
 // Refusal 9: "first class: W × top seconds above P × top grams".
 use crate::Judged;
-use crate::records::class_at;
-use crate::small::on;
-use crate::small::product;
-use crate::small::wide;
+use clauses::records::class_at;
+use clauses::small::on;
+use clauses::small::product;
+use clauses::small::wide;
 use order::Order;
 ghost use mathlib.Core.Path.{_≡_};
 ghost use Prim.Native.Nat.{_≤_};
@@ -11,7 +11,7 @@ ghost use Rattle.model.proofs.Orders.{Fit};
 ghost use Rattle.model.specs.Classes.{setNumber};
 ghost use Rattle.model.specs.Answers.{done, refusal};
 ghost use Rattle.order.specs.Held.{asOrder};
-ghost use Rattle.judge.specs.Tests.{setsOf};
+ghost use Rattle.clauses.specs.Tests.{setsOf};
 ghost use Rattle.judge.specs.Verdict.{Against, Leader, asAnswer};
 
 // "the first class as a number with bit i for dose i".

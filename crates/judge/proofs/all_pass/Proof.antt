@@ -1,6 +1,6 @@
 -- `all_pass` meets its contract: each test asks for one clause; later ones rest on earlier ones (Clauses).
-use Rattle.judge.specs.Tests.{sheet}
-use Rattle.judge.proofs.Tell.{tells-by, tells-not, tells-off, tells-was}
+use Rattle.clauses.specs.Tests.{sheet}
+use Rattle.clauses.proofs.Tell.{tells-by, tells-not, tells-off, tells-was}
 use Rattle.judge.proofs.Clauses.{counts-of, ready-of}
 use native.Mathlib.Omega.{arith}
 use Rattle.judge.proofs.all_pass.Statement.{statement}

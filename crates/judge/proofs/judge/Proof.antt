@@ -1,7 +1,7 @@
--- `judge` meets its contract: each answer is the verdict of its case (Unique).
+-- `judge` meets its contract: each answer is the verdict of its case (Verdicts).
 use Rattle.model.proofs.Orders.{read-fits}
 use Rattle.judge.proofs.OfOrder.{read-order-is, read-refused}
-use Rattle.judge.proofs.Unique.{judged-falls, judged-stands, judged-unread}
+use Rattle.judge.proofs.Verdicts.{judged-falls, judged-stands, judged-unread}
 use borrow.Author.Needs.{needs}
 use Rattle.judge.proofs.judge.Statement.{statement}
 use Rattle.judge.proofs.judge.Tie as tie

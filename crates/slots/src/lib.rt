@@ -1,0 +1,166 @@
+// The clauses of one slot (document 01, "A plan stands").
+use clauses::Class;
+use clauses::Slot;
+use clauses::records::class_at;
+use clauses::records::slot_at;
+use clauses::small::index;
+use clauses::small::moment;
+ghost use mathlib.Core.Path.{_≡_};
+ghost use Prim.Native.Nat.{ℕ, _/_, _<_, _≤_};
+ghost use lib.ListN.{length, getD};
+ghost use Rattle.model.specs.Stands as stands;
+ghost use Rattle.model.specs.Stands.{Between};
+ghost use Rattle.clauses.specs.Held.{asClass, asSlot};
+ghost use Rattle.clauses.specs.Tests.{Tells, SlotNames, SlotLong, SlotFits, InPlace, placeOf, slotIn, sheet};
+
+pub fn starts(s: Slot) -> u64
+    ensures { λ r. ⌜ r ≡ stands.starts (asSlot s) ⌝ }
+{
+    moment(s.start_tick, s.start_part, s.grams)
+}
+
+pub fn ends(s: Slot) -> u64
+    ensures { λ r. ⌜ r ≡ stands.ends (asSlot s) ⌝ }
+{
+    moment(s.end_tick, s.end_part, s.grams)
+}
+
+// "that class's W and P, an existing fan".
+fn slot_names(s: Slot, fans: u32, number: u32, c: Class) -> bool
+    ensures { λ t. ⌜ Tells t (SlotNames fans number (asClass c) (asSlot s)) ⌝ }
+{
+    if number != s.class {
+        return false;
+    }
+    if s.grams != c.grams {
+        return false;
+    }
+    if s.time != c.time {
+        return false;
+    }
+    if s.fan < 1 {
+        return false;
+    }
+    s.fan <= fans
+}
+
+// "has both parts below W and start before end".
+fn slot_long(s: Slot) -> bool
+    ensures { λ t. ⌜ Tells t (SlotLong (asSlot s)) ⌝ }
+{
+    if s.grams <= s.start_part {
+        return false;
+    }
+    if s.grams <= s.end_part {
+        return false;
+    }
+    starts(s) < ends(s)
+}
+
+fn between(s: Slot, from: u32, to: u32) -> bool
+    ensures { λ t. ⌜ Tells t (Between from to (asSlot s)) ⌝ }
+{
+    if starts(s) < moment(from, 0, s.grams) {
+        return false;
+    }
+    ends(s) <= moment(to, 0, s.grams)
+}
+
+// The interval in which a tick lies; the number of intervals where it lies in none.
+pub fn place_of(instants: &[u32; 48], intervals: usize, tick: u32) -> usize
+    requires { ⌜ intervals ≤ 47 ⌝ }
+    ensures { λ r. ⌜ (r ≡ placeOf (now (instants .entry)) intervals tick) × (r ≤ intervals) ⌝ }
+{
+    let mut j = 0;
+    while j < intervals {
+        if tick < instants[j + 1] {
+            return j;
+        }
+        j += 1;
+    }
+    j
+}
+
+// "and lies within .. one interval".
+fn in_place(s: Slot, instants: &[u32; 48], intervals: usize) -> bool
+    requires { ⌜ intervals ≤ 47 ⌝ }
+    ensures { λ t. ⌜ Tells t (InPlace (now (instants .entry)) intervals (asSlot s)) ⌝ }
+{
+    let j = place_of(instants, intervals, s.start_tick);
+    if intervals <= j {
+        return false;
+    }
+    between(s, instants[j], instants[j + 1])
+}
+
+fn slot_fits(
+    s: Slot,
+    plan: &[u8],
+    numbers: &[u32; 24],
+    release: &[u32; 24],
+    deadline: &[u32; 24],
+    grams: &[u32; 24],
+    instants: &[u32; 48],
+    doses: usize,
+    intervals: usize,
+    fans: u32,
+) -> bool
+    requires { ⌜ (doses ≤ 24) × (intervals ≤ 47) × ((k : ℕ) → k < doses → (1 ≤ getD (now numbers) k 0) × (getD (now numbers) k 0 ≤ length (now plan) / 32)) ⌝ }
+    ensures { λ t. ⌜ Tells t (SlotFits (sheet doses intervals fans (now (release .entry)) (now (deadline .entry)) (now (grams .entry)) (now (instants .entry))) (now (plan .entry)) (now (numbers .entry)) (asSlot s)) ⌝ }
+{
+    let k = s.dose as usize;
+    if doses <= k {
+        return false;
+    }
+    let number = numbers[k];
+    let c = class_at(plan, index(number) - 1);
+    if !slot_names(s, fans, number, c) {
+        return false;
+    }
+    if !slot_long(s) {
+        return false;
+    }
+    if !between(s, release[k], deadline[k]) {
+        return false;
+    }
+    in_place(s, instants, intervals)
+}
+
+// Each slot by itself.
+pub fn slots_fit(
+    plan: &[u8],
+    p: usize,
+    numbers: &[u32; 24],
+    release: &[u32; 24],
+    deadline: &[u32; 24],
+    grams: &[u32; 24],
+    instants: &[u32; 48],
+    doses: usize,
+    intervals: usize,
+    fans: u32,
+) -> bool
+    requires { ⌜ (doses ≤ 24) × (intervals ≤ 47) × ((k : ℕ) → k < doses → (1 ≤ getD (now numbers) k 0) × (getD (now numbers) k 0 ≤ length (now plan) / 32)) ⌝ }
+    ensures { λ t. ⌜ Tells t ((i : ℕ) → i < length (now (plan .entry)) / 32 → p ≤ i → SlotFits (sheet doses intervals fans (now (release .entry)) (now (deadline .entry)) (now (grams .entry)) (now (instants .entry))) (now (plan .entry)) (now (numbers .entry)) (slotIn (now (plan .entry)) i)) ⌝ }
+{
+    let m = plan.len() / 32;
+    let mut i = p;
+    while i < m {
+        let s = slot_at(plan, i);
+        if !slot_fits(
+            s,
+            plan,
+            numbers,
+            release,
+            deadline,
+            grams,
+            instants,
+            doses,
+            intervals,
+            fans,
+        ) {
+            return false;
+        }
+        i += 1;
+    }
+    true
+}

@@ -1,0 +1,65 @@
+// "each dose's slots total w × P units".
+use clauses::records::class_at;
+use clauses::records::slot_at;
+use clauses::small::index;
+use clauses::small::product;
+use slots::ends;
+use slots::starts;
+ghost use mathlib.Core.Path.{_≡_};
+ghost use Prim.Native.Nat.{ℕ, _/_, _<_, _≤_};
+ghost use lib.ListN.{length, getD};
+ghost use Rattle.clauses.specs.Tests.{Tells, Counts, slotIn, unitsUpTo, needIn};
+
+// The sums are what the doses need.
+fn all_met(
+    sums: [u64; 24],
+    plan: &[u8],
+    numbers: &[u32; 24],
+    grams: &[u32; 24],
+    doses: usize,
+) -> bool
+    requires { ⌜ (doses ≤ 24) × ((k : ℕ) → k < doses → (1 ≤ getD (now numbers) k 0) × (getD (now numbers) k 0 ≤ length (now plan) / 32)) ⌝ }
+    ensures { λ t. ⌜ Tells t ((k : ℕ) → k < doses → getD sums k 0 ≡ needIn (now (grams .entry)) (now (plan .entry)) (now (numbers .entry)) k) ⌝ }
+{
+    let mut k = 0;
+    while k < doses {
+        let number = index(numbers[k]);
+        let c = class_at(plan, number - 1);
+        let sum = sums[k];
+        let need = product(grams[k], c.time);
+        if sum != need {
+            return false;
+        }
+        k += 1;
+    }
+    true
+}
+
+// A sum that would pass its need ends the count, so that no sum wraps, however long the plan is.
+pub fn units_met(
+    plan: &[u8],
+    p: usize,
+    numbers: &[u32; 24],
+    grams: &[u32; 24],
+    doses: usize,
+) -> bool
+    requires { ⌜ (doses ≤ 24) × (p ≤ length (now plan) / 32) × ((k : ℕ) → k < doses → (1 ≤ getD (now numbers) k 0) × (getD (now numbers) k 0 ≤ length (now plan) / 32)) × ((i : ℕ) → i < length (now plan) / 32 → p ≤ i → Counts doses (now plan) (now numbers) (slotIn (now plan) i)) ⌝ }
+    ensures { λ t. ⌜ Tells t ((k : ℕ) → k < doses → unitsUpTo (now (plan .entry)) p (length (now (plan .entry)) / 32) k ≡ needIn (now (grams .entry)) (now (plan .entry)) (now (numbers .entry)) k) ⌝ }
+{
+    let m = plan.len() / 32;
+    let mut sums = [0u64; 24];
+    let mut i = p;
+    while i < m {
+        let s = slot_at(plan, i);
+        let k = s.dose as usize;
+        let had = sums[k];
+        let need = product(grams[k], s.time);
+        let units = ends(s) - starts(s);
+        if need - had < units {
+            return false;
+        }
+        sums[k] = had + units;
+        i += 1;
+    }
+    all_met(sums, plan, numbers, grams, doses)
+}
