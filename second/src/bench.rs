@@ -47,8 +47,8 @@ fn measure(peer: &dyn Peer, orders: &[Vec<u8>]) -> [f64; 5] {
         rows[0].push(time(|| spend(peer.plan(black_box(bytes), &mut buffer))));
         rows[1].push(time(|| spend(peer.judge(black_box(bytes), &plan))));
         rows[2].push(time(|| spend(peer.point(black_box(bytes), &plan, dose, middle))));
-        let mut pen = (dose, middle);
-        rows[3].push(time(|| spend(peer.advance(black_box(bytes), &plan, &mut pen.0, &mut pen.1))));
+        let mut pen = middle;
+        rows[3].push(time(|| spend(peer.advance(black_box(bytes), &plan, dose, &mut pen))));
         rows[4].push(f64::from(done.slots));
     }
     rows.map(median)
@@ -110,7 +110,7 @@ fn stacks(peer: &dyn Peer, bytes: &[u8]) -> [usize; 4] {
         stack_use(|| spend(peer.plan(bytes, &mut buffer))),
         stack_use(|| spend(peer.judge(bytes, &plan))),
         stack_use(|| spend(peer.point(bytes, &plan, 0, 1))),
-        stack_use(|| spend(peer.advance(bytes, &plan, &mut 0, &mut 1))),
+        stack_use(|| spend(peer.advance(bytes, &plan, 0, &mut 1))),
     ]
 }
 

@@ -6,9 +6,12 @@ mod alone;
 mod answers;
 mod bench;
 mod cases;
+mod checks;
 mod classes;
+mod clauses;
 mod compare;
 mod demand3;
+mod drawing;
 mod flow;
 mod guard;
 mod intervals;
@@ -20,6 +23,7 @@ mod near;
 mod orders;
 mod printer;
 mod random;
+mod refusals;
 mod runs;
 mod samples;
 mod selftest;
@@ -30,10 +34,12 @@ mod stands;
 mod styles;
 mod tally;
 mod variants;
+mod verdicts;
 
 use std::process::ExitCode;
 
 const USE: &str = "use: second self [cases] [seed]
+     second cases
      second compare [cases] [seed] [threads] [first case]
      second errors [cases] [seed]           (built with --features errors)
      second case FILE [PLAN FILE]
@@ -41,7 +47,7 @@ const USE: &str = "use: second self [cases] [seed]
      second bench [orders] [FILE]
      second make-samples DIR";
 
-/// The peer that `compare` asks: the proved library if it is linked.
+/// The peer that `cases` and `compare` ask: the proved library if it is linked.
 #[cfg(feature = "library")]
 const PEER: (&str, library::Library) = ("the proved library", library::Library);
 #[cfg(not(feature = "library"))]
@@ -72,6 +78,10 @@ fn main() -> ExitCode {
     let args: Vec<String> = std::env::args().skip(1).collect();
     let good = match args.first().map(String::as_str) {
         Some("self") => selftest::run(number(&args, 1, 2_000), number(&args, 2, 1)),
+        Some("cases") => {
+            println!("asking {}", PEER.0);
+            checks::run(&PEER.1)
+        }
         Some("compare") => {
             println!("comparing with {}", PEER.0);
             runs::run(&PEER.1, number(&args, 1, 1_000), number(&args, 2, 1), number(&args, 4, 0), number(&args, 3, 1), compare::USUAL)

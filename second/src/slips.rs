@@ -250,8 +250,8 @@ impl Peer for Slipped {
         self.ask(order, plan, dose, tick, tick > WEEK)
     }
 
-    fn advance(&self, order: &[u8], plan: &[u8], dose: &mut usize, tick: &mut u32) -> Drawn {
-        let answer = self.ask(order, plan, *dose, tick.saturating_add(1), *tick >= WEEK);
+    fn advance(&self, order: &[u8], plan: &[u8], dose: usize, tick: &mut u32) -> Drawn {
+        let answer = self.ask(order, plan, dose, tick.saturating_add(1), *tick >= WEEK);
         if answer.number == 0 || self.0 == PenMoves {
             *tick = tick.saturating_add(1);
         }
