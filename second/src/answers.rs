@@ -122,6 +122,10 @@ pub const OWN: Own = Own(classes::all);
 pub const OWN_FLOW: Own = Own(classes::by_flow);
 
 impl Peer for Own {
+    fn name(&self) -> &'static str {
+        "second program"
+    }
+
     fn plan(&self, order: &[u8], plan: &mut [u8]) -> Planned {
         if plan.len() < PLAN_BUFFER {
             return Planned { number: 1, ..Planned::default() };

@@ -10,14 +10,14 @@ use std::fmt::Debug;
 
 pub struct Checks<'a> {
     peer: &'a dyn Peer,
-    pub r: Random,
-    pub done: u32,
-    pub failed: u32,
+    r: Random,
+    done: u32,
+    failed: u32,
 }
 
 impl Checks<'_> {
     /// Noise and alignments come from a fixed seed: the same checks in every run.
-    pub fn of(peer: &dyn Peer) -> Checks<'_> {
+    fn of(peer: &dyn Peer) -> Checks<'_> {
         Checks { peer, r: Random::new(1), done: 0, failed: 0 }
     }
 
@@ -104,6 +104,7 @@ const GROUPS: [(&str, fn(&mut Checks)); 11] = [
 
 /// Runs every group; true if no check failed.
 pub fn run(peer: &dyn Peer) -> bool {
+    println!("asking the {}", peer.name());
     let mut c = Checks::of(peer);
     for (name, group) in GROUPS {
         let (done, failed) = (c.done, c.failed);

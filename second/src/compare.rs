@@ -26,6 +26,7 @@ pub struct Measure {
 }
 
 pub const USUAL: Measure = Measure { bytes: 64, points: 24, moments: 40 };
+pub const LITTLE: Measure = Measure { bytes: 24, points: 8, moments: 4 };
 
 struct Case<'a> {
     peer: &'a dyn Peer,

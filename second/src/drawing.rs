@@ -1,15 +1,15 @@
 //! Drawing asked of a peer: refusals 10, 11 and 12 at their edges, and the pen.
 
 use crate::answers::{accept, refused, House};
-use crate::cases::{p1, p2, p6, TOP};
+use crate::cases::{order, p1, p2, p6, TOP};
 use crate::checks::Checks;
 use crate::layout::Slot;
-use crate::orders::{write, WEEK};
+use crate::orders::{write, Order, WEEK};
 
 /// An example with the second program's plan for it; the shares of the examples are not open.
-fn example(o: &crate::orders::Order) -> (Vec<u8>, House, Vec<Slot>, Vec<u8>) {
+fn example(o: &Order) -> (Vec<u8>, House, Vec<Slot>, Vec<u8>) {
     let bytes = write(o, 1);
-    let house = accept(&bytes).ok().expect("an accepted order");
+    let house = accept(&bytes).expect("an accepted order");
     let (slots, plan) = (house.slots(None), house.plan(None));
     (bytes, house, slots, plan)
 }
@@ -37,7 +37,7 @@ pub fn edges(c: &mut Checks) {
             c.not_drawn(&format!("10 first: dose {dose} at {tick}"), &bytes, fallen, dose, tick, refused(10));
         }
     }
-    let empty = write(&crate::cases::order(3, TOP, &[]), 0);
+    let empty = write(&order(3, TOP, &[]), 0);
     c.not_drawn("11: no dose at all", &empty, &[], 0, WEEK + 1, refused(11));
 }
 

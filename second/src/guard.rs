@@ -12,10 +12,12 @@ pub struct Lent {
 }
 
 impl Lent {
-    /// A copy of these bytes between two stretches of noise, at any alignment.
+    /// A copy of these bytes between two stretches of noise, at any alignment; now and then alone in its memory, so that a memory checker
+    /// sees a byte read beside it.
     pub fn new(bytes: &[u8], r: &mut Random) -> Lent {
-        let (left, right) = (r.range(48, 64) as usize, r.range(48, 64) as usize);
-        let mut all: Vec<u8> = (0..left).map(|_| r.next() as u8).collect();
+        let (left, right) = if r.once_in(4) { (0, 0) } else { (r.range(48, 64) as usize, r.range(48, 64) as usize) };
+        let mut all = Vec::with_capacity(left + bytes.len() + right);
+        all.extend((0..left).map(|_| r.next() as u8));
         all.extend_from_slice(bytes);
         all.extend((0..right).map(|_| r.next() as u8));
         Lent { before: all.clone(), all, from: left, len: bytes.len() }

@@ -39,6 +39,7 @@ pub struct Drawn {
 
 /// The four entry points, whoever answers them.
 pub trait Peer: Sync {
+    fn name(&self) -> &'static str;
     fn plan(&self, order: &[u8], plan: &mut [u8]) -> Planned;
     fn judge(&self, order: &[u8], plan: &[u8]) -> Judged;
     fn point(&self, order: &[u8], plan: &[u8], dose: usize, tick: u32) -> Drawn;
@@ -113,6 +114,10 @@ mod linked {
     pub struct Library;
 
     impl Peer for Library {
+        fn name(&self) -> &'static str {
+            "proved library"
+        }
+
         fn plan(&self, order: &[u8], plan: &mut [u8]) -> Planned {
             let w = unsafe { knellgable_plan(order.as_ptr(), order.len(), plan.as_mut_ptr(), plan.len()) };
             let (place, set, grams, time) = (narrow(w.place), narrow(w.set), narrow(w.grams), narrow(w.time));

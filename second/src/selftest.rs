@@ -3,7 +3,7 @@
 use crate::answers::{accept, House, OWN};
 use crate::checks;
 use crate::classes::{by_flow, by_subsets};
-use crate::compare::{Measure, USUAL};
+use crate::compare::LITTLE;
 use crate::demand3::sentences;
 use crate::intervals::Intervals;
 use crate::layout::{plan_bytes, Slot};
@@ -178,9 +178,7 @@ pub fn run(cases: u64, seed: u64) -> bool {
     good = classes(2 * cases, seed) && good;
     good = plans(cases, seed) && good;
     good = damage(cases / 4, seed) && good;
-    let few = Measure { bytes: 64, points: 10, moments: 5 };
-    println!("the comparison with itself:");
-    good = runs::run(&OWN, cases / 20, seed, 0, 1, if cases > 100_000 { USUAL } else { few }) && good;
+    good = runs::run(&OWN, cases / 20, seed, 0, 1, LITTLE) && good;
     println!("{}", if good { "self-test passed" } else { "self-test FAILED" });
     good
 }

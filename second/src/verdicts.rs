@@ -9,6 +9,7 @@ use crate::demand3::sentences;
 use crate::layout::{class_record, plan_bytes, Slot};
 use crate::library::Judged;
 use crate::orders::{write, Order, RECORD};
+use crate::random::Random;
 use crate::samples;
 use crate::stands::Broken;
 use crate::variants::{move_blocks, permute_fans, sorted, split};
@@ -22,7 +23,7 @@ struct Bench {
 
 impl Bench {
     fn of(bytes: Vec<u8>) -> Bench {
-        let house = accept(&bytes).ok().expect("an accepted order");
+        let house = accept(&bytes).expect("an accepted order");
         let slots = house.slots(None);
         Bench { bytes, house, slots }
     }
@@ -42,7 +43,7 @@ impl Bench {
         c.same(name, clauses::broken(&self.house, plan), Vec::new());
         let slots = self.house.stands(plan).unwrap_or_default();
         c.same(name, slots.is_empty(), self.house.order.doses.is_empty());
-        c.same(name, sentences(&self.house, &slots, 40, &mut c.r.clone()), Ok(()));
+        c.same(name, sentences(&self.house, &slots, 40, &mut Random::new(3)), Ok(()));
         for (dose, d) in self.house.order.doses.iter().enumerate() {
             let edges = slots.iter().filter(|s| s.dose as usize == dose).flat_map(|s| [s.start.0, s.end.0]);
             let ticks = edges.chain([d.release, d.deadline - 1, d.deadline]).take(40);
@@ -176,7 +177,7 @@ pub fn standing(c: &mut Checks) {
             continue;
         }
         let bench = Bench::of(bytes);
-        let mut r = c.r.clone();
+        let mut r = Random::new(2);
         let other = bench.house.slots(Some(&mut r));
         let shapes = [
             ("permuted fans", permute_fans(&bench.house, &bench.slots, &mut r)),
