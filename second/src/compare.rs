@@ -19,14 +19,17 @@ pub struct Difference {
 /// How much of everything a case does.
 #[derive(Clone, Copy)]
 pub struct Measure {
-    /// Short plans are damaged at every byte, most others at this many places.
+    /// Whether short plans are damaged at every byte.
+    pub every: bool,
+    /// Other plans are damaged at this many bytes, and in this many whole records.
     pub bytes: usize,
+    pub records: usize,
     pub points: usize,
     pub moments: u32,
 }
 
-pub const USUAL: Measure = Measure { bytes: 64, points: 24, moments: 40 };
-pub const LITTLE: Measure = Measure { bytes: 24, points: 8, moments: 4 };
+pub const USUAL: Measure = Measure { every: true, bytes: 64, records: 20, points: 24, moments: 40 };
+pub const LITTLE: Measure = Measure { every: false, bytes: 6, records: 4, points: 4, moments: 2 };
 
 struct Case<'a> {
     peer: &'a dyn Peer,
@@ -152,8 +155,8 @@ impl Case<'_> {
 
     fn damaged(&mut self, house: &House, plan: &[u8]) -> Result<(), Difference> {
         let mut places: Vec<usize> = (0..plan.len()).collect();
-        let every = plan.len() <= 8 * RECORD || (plan.len() <= 64 * RECORD && self.r.once_in(8));
-        if !every {
+        let short = plan.len() <= 8 * RECORD || (plan.len() <= 64 * RECORD && self.r.once_in(8));
+        if !(short && self.measure.every) {
             self.r.shuffle(&mut places);
             places.truncate(self.measure.bytes);
         }
@@ -161,7 +164,7 @@ impl Case<'_> {
             let bytes = variants::damage_byte(plan, at, self.r);
             self.judge(house, &bytes)?;
         }
-        for _ in 0..20 {
+        for _ in 0..self.measure.records {
             let mut bytes = variants::damage(plan, self.r);
             if self.r.once_in(4) {
                 bytes = variants::damage(&bytes, self.r);

@@ -140,7 +140,7 @@ fn asked(text: &mut String, list: &[Figure]) {
         writeln!(text, "| {} | {} | {} |", f.asked, f.measured, if f.met { "yes" } else { "missed: see below" }).unwrap();
     }
     for f in list.iter().filter(|f| !f.met) {
-        let reason = REASONS.iter().find(|(asked, _)| *asked == f.asked).map_or("no reason is known.", |(_, reason)| reason);
+        let reason = REASONS.iter().find(|(asked, _)| *asked == f.asked).map_or("not explained yet.", |(_, reason)| reason);
         writeln!(text, "\nMissed, {}: {reason}", f.asked).unwrap();
     }
 }
