@@ -1,5 +1,5 @@
-//! Plans spoilt to break one clause of "A plan stands". Mostly the others hold; a foreign dose, a
-//! wrong fan or missing records also upset totals or the sequence, which the judge meets later.
+//! Plans spoilt to break one clause of "A plan stands". Mostly the others hold; some foreign doses, a wrong fan or missing records also
+//! upset totals or the sequence, which the judge meets later.
 
 use crate::answers::House;
 use crate::layout::{class_record, plan_bytes, slot_record, Slot};
@@ -50,6 +50,7 @@ fn records(house: &House, plan: &[u8], r: &mut Random) -> Found {
     with("classes missing", &mut |b| drop(b.drain((heads - 1) * RECORD..heads * RECORD)));
     with("classes missing", &mut |b| b.truncate((heads - 1) * RECORD));
     with("class after slot", &mut |b| b.extend(class_record(heads, &house.classes[heads - 1])));
+    with("class after slot", &mut |b| b[(heads - 1) * RECORD..(heads + 1) * RECORD].rotate_left(RECORD));
     if heads > 1 {
         with("class record", &mut |b| (0..RECORD).for_each(|i| b.swap(i, (heads - 1) * RECORD + i)));
     }
@@ -72,6 +73,14 @@ fn fields(house: &House, slots: &[Slot], r: &mut Random) -> Found {
     with("dose not of class", Slot { dose: s.dose + 256, ..s });
     if let Some(k) = (0..house.order.doses.len()).find(|k| house.classes[s.class as usize - 1].set >> k & 1 == 0) {
         with("dose not of class", Slot { dose: k as u32, ..s });
+    }
+    // As many units of a class with a greater W: shorter, and so still apart from all others.
+    let greater = |i: &usize| *i + 1 != s.class as usize && house.classes[*i].grams >= u64::from(s.grams) && s.start.1 == 0;
+    if let Some(i) = (0..house.classes.len()).find(greater) {
+        let (w, p) = (house.classes[i].grams, house.classes[i].time);
+        let (from, units) = (u64::from(s.start.0) * w, s.to() - s.from());
+        let renamed = Slot { class: i as u32 + 1, grams: w as u32, time: p as u32, ..s };
+        with("dose not of class", renamed.cut(from, from + units));
     }
     with("W or P", Slot { grams: s.grams + 1, ..s });
     with("W or P", Slot { time: s.time - 1, ..s });

@@ -80,15 +80,15 @@ impl House {
     }
 
     /// What moving a pen answers once the plan stands; a refusal leaves the pen.
-    pub fn step(&self, slots: &[Slot], dose: &mut usize, tick: &mut u32) -> Drawn {
-        if *dose >= self.order.doses.len() {
+    pub fn step(&self, slots: &[Slot], dose: usize, tick: &mut u32) -> Drawn {
+        if dose >= self.order.doses.len() {
             return refused(11);
         }
         if *tick >= WEEK {
             return refused(12);
         }
         *tick += 1;
-        drawn(self.point(slots, *dose, *tick))
+        drawn(self.point(slots, dose, *tick))
     }
 }
 
@@ -122,6 +122,10 @@ pub const OWN: Own = Own(classes::all);
 pub const OWN_FLOW: Own = Own(classes::by_flow);
 
 impl Peer for Own {
+    fn name(&self) -> &'static str {
+        "second program"
+    }
+
     fn plan(&self, order: &[u8], plan: &mut [u8]) -> Planned {
         if plan.len() < PLAN_BUFFER {
             return Planned { number: 1, ..Planned::default() };
@@ -152,7 +156,7 @@ impl Peer for Own {
         }
     }
 
-    fn advance(&self, order: &[u8], plan: &[u8], dose: &mut usize, tick: &mut u32) -> Drawn {
+    fn advance(&self, order: &[u8], plan: &[u8], dose: usize, tick: &mut u32) -> Drawn {
         match accept_by(order, self.0) {
             Err(j) => not_drawn(j),
             Ok(house) => house.stands(plan).map_or(refused(10), |slots| house.step(&slots, dose, tick)),

@@ -2,13 +2,12 @@
 
 use crate::answers::{accept, not_drawn, planned, refused, House, PLAN_BUFFER};
 use crate::demand3::sentences;
-use crate::guard::Lent;
 use crate::layout::{plan_bytes, wrap, Slot};
 use crate::library::{Drawn, Judged, Peer, Planned};
 use crate::orders::{RECORD, WEEK};
 use crate::random::Random;
 use crate::tally::Tally;
-use crate::{alone, cases, near, variants};
+use crate::{alone, cases, guard, near, variants};
 
 /// A case in which the two differ, with the bytes that show it.
 pub struct Difference {
@@ -20,13 +19,17 @@ pub struct Difference {
 /// How much of everything a case does.
 #[derive(Clone, Copy)]
 pub struct Measure {
-    /// Short plans are damaged at every byte, most others at this many places.
+    /// Whether short plans are damaged at every byte.
+    pub every: bool,
+    /// Other plans are damaged at this many bytes, and in this many whole records.
     pub bytes: usize,
+    pub records: usize,
     pub points: usize,
     pub moments: u32,
 }
 
-pub const USUAL: Measure = Measure { bytes: 64, points: 24, moments: 40 };
+pub const USUAL: Measure = Measure { every: true, bytes: 64, records: 20, points: 24, moments: 40 };
+pub const LITTLE: Measure = Measure { every: false, bytes: 6, records: 4, points: 4, moments: 2 };
 
 struct Case<'a> {
     peer: &'a dyn Peer,
@@ -41,14 +44,9 @@ impl Case<'_> {
         Err(Difference { what, order: self.order.clone(), plan: plan.to_vec() })
     }
 
-    /// Lends order and plan for one call and sees that neither changed.
-    fn lend<T>(&mut self, plan: &[u8], call: impl FnOnce(&dyn Peer, &[u8], &[u8]) -> T) -> Result<T, Difference> {
-        let (order, lent) = (Lent::new(&self.order, self.r), Lent::new(plan, self.r));
-        let answer = call(self.peer, order.bytes(), lent.bytes());
-        if !order.untouched() || !lent.untouched() {
-            return self.differ("bytes of a lent order or plan changed".into(), plan);
-        }
-        Ok(answer)
+    /// What came back of a lent call, or the byte that changed as a difference.
+    fn got<T>(&self, answer: Result<T, String>, plan: &[u8]) -> Result<T, Difference> {
+        answer.or_else(|what| self.differ(what, plan))
     }
 
     /// A buffer that is too short, now and then; the answer is 1 whatever the order.
@@ -62,13 +60,9 @@ impl Case<'_> {
     }
 
     fn plan(&mut self, own: &Result<House, Judged>, len: usize) -> Result<Option<Vec<u8>>, Difference> {
-        let order = Lent::new(&self.order, self.r);
-        let mut buffer = Lent::noise(len, self.r);
-        let answer = self.peer.plan(order.bytes(), buffer.bytes_mut());
+        let lent = guard::plan(self.peer, &self.order, len, self.r);
+        let (answer, plan) = self.got(lent, &[])?;
         self.tally.planned(answer.number);
-        if !order.untouched() {
-            return self.differ("planning changed the order".into(), &[]);
-        }
         let wanted = match own {
             _ if len < PLAN_BUFFER => Planned { number: 1, ..Planned::default() },
             Err(refusal) => planned(*refusal),
@@ -77,12 +71,7 @@ impl Case<'_> {
         if answer != wanted {
             return self.differ(format!("planning with a buffer of {len}: {answer:?} and not {wanted:?}"), &[]);
         }
-        let written = (answer.classes as usize + answer.slots as usize) * RECORD;
-        if written > len || !buffer.untouched_past(written) {
-            return self.differ(format!("planning changed bytes past its {written}"), &[]);
-        }
         let (Ok(house), true) = (own, answer.number == 0) else { return Ok(None) };
-        let plan = buffer.bytes()[..written].to_vec();
         match house.stands(&plan) {
             Err(clause) => self.differ(format!("the planner's plan does not stand: {clause}"), &plan),
             Ok(slots) if !by_wrap_around(house, &slots, &plan) => self.differ("a plan not laid by wrap-around".into(), &plan),
@@ -95,7 +84,8 @@ impl Case<'_> {
         let own = house.stands(plan);
         self.tally.judged(&own);
         let wanted = Judged { number: if own.is_ok() { 0 } else { 10 }, ..Judged::default() };
-        let answer = self.lend(plan, |peer, order, plan| peer.judge(order, plan))?;
+        let lent = guard::lend(&self.order, plan, self.r, |order, plan| self.peer.judge(order, plan));
+        let answer = self.got(lent, plan)?;
         if answer != wanted {
             let why = own.err().unwrap_or("none");
             return self.differ(format!("judging: {answer:?} and not {}, clause broken: {why}", wanted.number), plan);
@@ -104,7 +94,8 @@ impl Case<'_> {
     }
 
     fn point(&mut self, plan: &[u8], wanted: Drawn, dose: usize, tick: u32) -> Result<(), Difference> {
-        let answer = self.lend(plan, |peer, order, plan| peer.point(order, plan, dose, tick))?;
+        let lent = guard::lend(&self.order, plan, self.r, |order, plan| self.peer.point(order, plan, dose, tick));
+        let answer = self.got(lent, plan)?;
         self.tally.drawn(answer.number);
         if answer != wanted {
             return self.differ(format!("dose {dose} at {tick}: {answer:?} and not {wanted:?}"), plan);
@@ -112,16 +103,12 @@ impl Case<'_> {
         Ok(())
     }
 
-    /// One step of a pen, with the pen's two numbers between others.
-    fn step(&mut self, plan: &[u8], wanted: Drawn, pen: (usize, u32), after: (usize, u32)) -> Result<(), Difference> {
-        let (mut doses, mut ticks) = ([!pen.0, pen.0, !pen.0], [!pen.1, pen.1, !pen.1]);
-        let answer = self.lend(plan, |peer, order, plan| peer.advance(order, plan, &mut doses[1], &mut ticks[1]))?;
+    fn step(&mut self, plan: &[u8], wanted: Drawn, dose: usize, tick: u32, after: u32) -> Result<(), Difference> {
+        let lent = guard::step(self.peer, &self.order, plan, dose, tick, self.r);
+        let (answer, now) = self.got(lent, plan)?;
         self.tally.drawn(answer.number);
-        if answer != wanted {
-            return self.differ(format!("pen {pen:?}: {answer:?} and not {wanted:?}"), plan);
-        }
-        if doses != [!pen.0, after.0, !pen.0] || ticks != [!pen.1, after.1, !pen.1] {
-            return self.differ(format!("pen {pen:?} is now {doses:?}, {ticks:?} and not at {after:?}"), plan);
+        if (answer, now) != (wanted, after) {
+            return self.differ(format!("pen of dose {dose} at {tick}: {answer:?}, now at {now}, and not {wanted:?}, {after}"), plan);
         }
         Ok(())
     }
@@ -145,11 +132,11 @@ impl Case<'_> {
         asked.extend([(n, 0), (n + 1, WEEK + 1), (usize::MAX, u32::MAX), (n, self.r.range(0, WEEK))]);
         for (dose, tick) in asked {
             self.point(plan, house.draw(slots, dose, tick), dose, tick)?;
-            let (mut k, mut t) = (dose, if self.r.once_in(2) { tick.wrapping_sub(1) } else { tick });
+            let mut pen = if self.r.once_in(2) { tick.wrapping_sub(1) } else { tick };
             for _ in 0..self.r.range(0, 2) {
-                let before = (k, t);
-                let wanted = house.step(slots, &mut k, &mut t);
-                self.step(plan, wanted, before, (k, t))?;
+                let before = pen;
+                let wanted = house.step(slots, dose, &mut pen);
+                self.step(plan, wanted, dose, before, pen)?;
             }
         }
         Ok(())
@@ -168,8 +155,8 @@ impl Case<'_> {
 
     fn damaged(&mut self, house: &House, plan: &[u8]) -> Result<(), Difference> {
         let mut places: Vec<usize> = (0..plan.len()).collect();
-        let every = plan.len() <= 8 * RECORD || (plan.len() <= 64 * RECORD && self.r.once_in(8));
-        if !every {
+        let short = plan.len() <= 8 * RECORD || (plan.len() <= 64 * RECORD && self.r.once_in(8));
+        if !(short && self.measure.every) {
             self.r.shuffle(&mut places);
             places.truncate(self.measure.bytes);
         }
@@ -177,7 +164,7 @@ impl Case<'_> {
             let bytes = variants::damage_byte(plan, at, self.r);
             self.judge(house, &bytes)?;
         }
-        for _ in 0..20 {
+        for _ in 0..self.measure.records {
             let mut bytes = variants::damage(plan, self.r);
             if self.r.once_in(4) {
                 bytes = variants::damage(&bytes, self.r);
@@ -188,7 +175,7 @@ impl Case<'_> {
                 Some(slots) => self.point(&bytes, house.draw(&slots, dose, tick), dose, tick)?,
                 None => {
                     self.point(&bytes, refused(10), dose, tick)?;
-                    self.step(&bytes, refused(10), (dose, tick), (dose, tick))?;
+                    self.step(&bytes, refused(10), dose, tick, tick)?;
                 }
             }
         }
@@ -199,13 +186,14 @@ impl Case<'_> {
     fn refused(&mut self, refusal: Judged) -> Result<(), Difference> {
         let len = self.r.pick(&[0, 0, 32, 31, 320]);
         let plan: Vec<u8> = (0..len).map(|i| if i % RECORD == 0 { b'C' } else { 0 }).collect();
-        let answer = self.lend(&plan, |peer, order, plan| peer.judge(order, plan))?;
+        let lent = guard::lend(&self.order, &plan, self.r, |order, plan| self.peer.judge(order, plan));
+        let answer = self.got(lent, &plan)?;
         if answer != refusal {
             return self.differ(format!("judging a refused order: {answer:?} and not {refusal:?}"), &plan);
         }
-        let pen = (self.r.below(26) as usize, self.r.pick(&[0, 5, WEEK, WEEK + 1]));
-        self.point(&plan, not_drawn(refusal), pen.0, pen.1)?;
-        self.step(&plan, not_drawn(refusal), pen, pen)
+        let (dose, tick) = (self.r.below(26) as usize, self.r.pick(&[0, 5, WEEK, WEEK + 1]));
+        self.point(&plan, not_drawn(refusal), dose, tick)?;
+        self.step(&plan, not_drawn(refusal), dose, tick, tick)
     }
 
     /// Planning alone, and judging where the order is refused.

@@ -1,5 +1,7 @@
-//! Lent buffers with canaries on both sides.
+//! Lent buffers with canaries on both sides, and a peer's entry points asked with such buffers.
 
+use crate::library::{Drawn, Peer, Planned};
+use crate::orders::RECORD;
 use crate::random::Random;
 
 pub struct Lent {
@@ -10,10 +12,12 @@ pub struct Lent {
 }
 
 impl Lent {
-    /// A copy of these bytes between two stretches of noise, at any alignment.
+    /// A copy of these bytes between two stretches of noise, at any alignment; now and then alone in its memory, so that a memory checker
+    /// sees a byte read beside it.
     pub fn new(bytes: &[u8], r: &mut Random) -> Lent {
-        let (left, right) = (r.range(48, 64) as usize, r.range(48, 64) as usize);
-        let mut all: Vec<u8> = (0..left).map(|_| r.next() as u8).collect();
+        let (left, right) = if r.once_in(4) { (0, 0) } else { (r.range(48, 64) as usize, r.range(48, 64) as usize) };
+        let mut all = Vec::with_capacity(left + bytes.len() + right);
+        all.extend((0..left).map(|_| r.next() as u8));
         all.extend_from_slice(bytes);
         all.extend((0..right).map(|_| r.next() as u8));
         Lent { before: all.clone(), all, from: left, len: bytes.len() }
@@ -43,4 +47,39 @@ impl Lent {
         let end = self.from + n;
         self.all[..self.from] == self.before[..self.from] && self.all[end..] == self.before[end..]
     }
+}
+
+/// Plans into noise of this length. All but the records answered for must stay; they come back beside the answer.
+pub fn plan(peer: &dyn Peer, order: &[u8], len: usize, r: &mut Random) -> Result<(Planned, Vec<u8>), String> {
+    let order = Lent::new(order, r);
+    let mut buffer = Lent::noise(len, r);
+    let answer = peer.plan(order.bytes(), buffer.bytes_mut());
+    let written = (answer.classes as usize + answer.slots as usize) * RECORD;
+    if !order.untouched() {
+        return Err("planning changed the order".into());
+    }
+    if written > len || !buffer.untouched_past(written) {
+        return Err(format!("planning changed bytes past its {written}"));
+    }
+    Ok((answer, buffer.bytes()[..written].to_vec()))
+}
+
+/// Lends order and plan for one call, which must leave both.
+pub fn lend<T>(order: &[u8], plan: &[u8], r: &mut Random, call: impl FnOnce(&[u8], &[u8]) -> T) -> Result<T, String> {
+    let (order, plan) = (Lent::new(order, r), Lent::new(plan, r));
+    let answer = call(order.bytes(), plan.bytes());
+    if !order.untouched() || !plan.untouched() {
+        return Err("bytes of a lent order or plan changed".into());
+    }
+    Ok(answer)
+}
+
+/// One step of a pen whose tick is lent between others: the answer and the tick after it.
+pub fn step(peer: &dyn Peer, order: &[u8], plan: &[u8], dose: usize, tick: u32, r: &mut Random) -> Result<(Drawn, u32), String> {
+    let mut ticks = [!tick, tick, !tick];
+    let answer = lend(order, plan, r, |order, plan| peer.advance(order, plan, dose, &mut ticks[1]))?;
+    if [ticks[0], ticks[2]] != [!tick; 2] {
+        return Err("numbers beside a pen changed".into());
+    }
+    Ok((answer, ticks[1]))
 }

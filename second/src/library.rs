@@ -1,6 +1,5 @@
 //! The boundary: numbers and byte slices only. The one module that may be unsafe.
 
-#[repr(C)]
 #[derive(Clone, Copy, Debug, Default, PartialEq, Eq)]
 pub struct Planned {
     pub number: u32,
@@ -12,7 +11,6 @@ pub struct Planned {
     pub slots: u32,
 }
 
-#[repr(C)]
 #[derive(Clone, Copy, Debug, Default, PartialEq, Eq)]
 pub struct Judged {
     pub number: u32,
@@ -27,7 +25,6 @@ pub const SHUT: u32 = 1;
 pub const IDLE: u32 = 2;
 pub const DOSING: u32 = 3;
 
-#[repr(C)]
 #[derive(Clone, Copy, Debug, Default, PartialEq, Eq)]
 pub struct Drawn {
     pub number: u32,
@@ -42,49 +39,102 @@ pub struct Drawn {
 
 /// The four entry points, whoever answers them.
 pub trait Peer: Sync {
+    fn name(&self) -> &'static str;
     fn plan(&self, order: &[u8], plan: &mut [u8]) -> Planned;
     fn judge(&self, order: &[u8], plan: &[u8]) -> Judged;
     fn point(&self, order: &[u8], plan: &[u8], dose: usize, tick: u32) -> Drawn;
-    fn advance(&self, order: &[u8], plan: &[u8], dose: &mut usize, tick: &mut u32) -> Drawn;
+    fn advance(&self, order: &[u8], plan: &[u8], dose: usize, tick: &mut u32) -> Drawn;
 }
 
 #[cfg(feature = "library")]
 mod linked {
     use super::{Drawn, Judged, Peer, Planned};
 
+    /// The answers as they cross the boundary: the library counts and places in wider numbers.
+    #[repr(C)]
+    struct WidePlanned {
+        number: u32,
+        place: usize,
+        set: u64,
+        grams: u64,
+        time: u64,
+        classes: usize,
+        slots: usize,
+    }
+
+    #[repr(C)]
+    struct WideJudged {
+        number: u32,
+        place: usize,
+        set: u64,
+        grams: u64,
+        time: u64,
+    }
+
+    #[repr(C)]
+    struct WideDrawn {
+        number: u32,
+        place: usize,
+        set: u64,
+        grams: u64,
+        time: u64,
+        amount: u32,
+        state: u32,
+        fan: u32,
+    }
+
     #[link(name = "knellgable", kind = "static")]
     extern "C" {
-        fn knellgable_plan(order: *const u8, order_len: usize, plan: *mut u8, plan_len: usize) -> Planned;
-        fn knellgable_judge(order: *const u8, order_len: usize, plan: *const u8, plan_len: usize) -> Judged;
-        fn knellgable_point(order: *const u8, order_len: usize, plan: *const u8, plan_len: usize, dose: usize, tick: u32) -> Drawn;
+        fn knellgable_plan(order: *const u8, order_len: usize, plan: *mut u8, plan_len: usize) -> WidePlanned;
+        fn knellgable_judge(order: *const u8, order_len: usize, plan: *const u8, plan_len: usize) -> WideJudged;
+        fn knellgable_point(order: *const u8, order_len: usize, plan: *const u8, plan_len: usize, dose: usize, tick: u32) -> WideDrawn;
         fn knellgable_advance(
             order: *const u8,
             order_len: usize,
             plan: *const u8,
             plan_len: usize,
-            dose: *mut usize,
+            dose: usize,
             tick: *mut u32,
-        ) -> Drawn;
+        ) -> WideDrawn;
+    }
+
+    /// No right answer is wider than 32 bits; a wider one stops the case it came in.
+    fn narrow<T: TryInto<u32>>(wide: T) -> u32 {
+        wide.try_into().ok().expect("an answer of the library fits 32 bits")
+    }
+
+    impl From<WideDrawn> for Drawn {
+        fn from(w: WideDrawn) -> Drawn {
+            let (place, set, grams, time) = (narrow(w.place), narrow(w.set), narrow(w.grams), narrow(w.time));
+            Drawn { number: w.number, place, set, grams, time, amount: w.amount, state: w.state, fan: w.fan }
+        }
     }
 
     /// The proved library. Each call lends slices that live as long as the call.
     pub struct Library;
 
     impl Peer for Library {
+        fn name(&self) -> &'static str {
+            "proved library"
+        }
+
         fn plan(&self, order: &[u8], plan: &mut [u8]) -> Planned {
-            unsafe { knellgable_plan(order.as_ptr(), order.len(), plan.as_mut_ptr(), plan.len()) }
+            let w = unsafe { knellgable_plan(order.as_ptr(), order.len(), plan.as_mut_ptr(), plan.len()) };
+            let (place, set, grams, time) = (narrow(w.place), narrow(w.set), narrow(w.grams), narrow(w.time));
+            Planned { number: w.number, place, set, grams, time, classes: narrow(w.classes), slots: narrow(w.slots) }
         }
 
         fn judge(&self, order: &[u8], plan: &[u8]) -> Judged {
-            unsafe { knellgable_judge(order.as_ptr(), order.len(), plan.as_ptr(), plan.len()) }
+            let w = unsafe { knellgable_judge(order.as_ptr(), order.len(), plan.as_ptr(), plan.len()) };
+            Judged { number: w.number, place: narrow(w.place), set: narrow(w.set), grams: narrow(w.grams), time: narrow(w.time) }
         }
 
         fn point(&self, order: &[u8], plan: &[u8], dose: usize, tick: u32) -> Drawn {
-            unsafe { knellgable_point(order.as_ptr(), order.len(), plan.as_ptr(), plan.len(), dose, tick) }
+            unsafe { knellgable_point(order.as_ptr(), order.len(), plan.as_ptr(), plan.len(), dose, tick) }.into()
         }
 
-        fn advance(&self, order: &[u8], plan: &[u8], dose: &mut usize, tick: &mut u32) -> Drawn {
-            unsafe { knellgable_advance(order.as_ptr(), order.len(), plan.as_ptr(), plan.len(), dose, tick) }
+        fn advance(&self, order: &[u8], plan: &[u8], dose: usize, tick: &mut u32) -> Drawn {
+            unsafe { knellgable_advance(order.as_ptr(), order.len(), plan.as_ptr(), plan.len(), dose, tick) }.into()
         }
     }
 }

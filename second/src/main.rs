@@ -6,20 +6,27 @@ mod alone;
 mod answers;
 mod bench;
 mod cases;
+mod checks;
 mod classes;
+mod clauses;
 mod compare;
 mod demand3;
+mod drawing;
 mod flow;
+mod glpk;
 mod guard;
 mod intervals;
 mod layout;
 #[allow(unsafe_code)]
 mod library;
 mod line;
+mod machine;
 mod near;
 mod orders;
+mod page;
 mod printer;
 mod random;
+mod refusals;
 mod runs;
 mod samples;
 mod selftest;
@@ -30,22 +37,24 @@ mod stands;
 mod styles;
 mod tally;
 mod variants;
+mod verdicts;
 
 use std::process::ExitCode;
 
 const USE: &str = "use: second self [cases] [seed]
-     second compare [cases] [seed] [threads] [first case]
+     second cases
+     second compare [cases] [seed] [threads] [first case] [little]
      second errors [cases] [seed]           (built with --features errors)
      second case FILE [PLAN FILE]
      second plan FILE
      second bench [orders] [FILE]
      second make-samples DIR";
 
-/// The peer that `compare` asks: the proved library if it is linked.
+/// The peer that `cases` and `compare` ask: the proved library if it is linked.
 #[cfg(feature = "library")]
-const PEER: (&str, library::Library) = ("the proved library", library::Library);
+const PEER: library::Library = library::Library;
 #[cfg(not(feature = "library"))]
-const PEER: (&str, answers::Own) = ("the second program itself (built without --features library)", answers::OWN);
+const PEER: answers::Own = answers::OWN;
 
 fn number(args: &[String], at: usize, usual: u64) -> u64 {
     match args.get(at) {
@@ -72,9 +81,10 @@ fn main() -> ExitCode {
     let args: Vec<String> = std::env::args().skip(1).collect();
     let good = match args.first().map(String::as_str) {
         Some("self") => selftest::run(number(&args, 1, 2_000), number(&args, 2, 1)),
+        Some("cases") => checks::run(&PEER),
         Some("compare") => {
-            println!("comparing with {}", PEER.0);
-            runs::run(&PEER.1, number(&args, 1, 1_000), number(&args, 2, 1), number(&args, 4, 0), number(&args, 3, 1), compare::USUAL)
+            let measure = if args.get(5).is_some_and(|word| word == "little") { compare::LITTLE } else { compare::USUAL };
+            runs::run(&PEER, number(&args, 1, 1_000), number(&args, 2, 1), number(&args, 4, 0), number(&args, 3, 1), measure)
         }
         #[cfg(feature = "errors")]
         Some("errors") => slips::run(number(&args, 1, 1_000), number(&args, 2, 1)),
@@ -87,7 +97,7 @@ fn main() -> ExitCode {
             print!("{}", printer::plan(&file(&args, 1)));
             true
         }
-        Some("bench") => bench::run(number(&args, 1, 100) as usize, args.get(2).map(String::as_str)),
+        Some("bench") => page::run(number(&args, 1, 100) as usize, args.get(2).map(String::as_str)),
         Some("make-samples") => samples::make(args.get(1).map_or(".", String::as_str)),
         _ => {
             eprintln!("{USE}");

@@ -1,6 +1,6 @@
 //! Bytes that are nearly orders: every refusal, damaged bytes, any length.
 
-use crate::orders::{dose_record, fan_record, put, Dose, MILLION, RECORD, WEEK};
+use crate::orders::{dose_record, fan_record, number, put, Dose, MILLION, RECORD, WEEK};
 use crate::random::Random;
 use crate::styles;
 
@@ -22,56 +22,60 @@ fn insert(bytes: &mut Vec<u8>, record: &[u8], r: &mut Random) {
     bytes.splice(at..at, record.iter().copied());
 }
 
-/// A dose field at or past its bounds.
-fn bad_dose(bytes: &mut [u8], at: usize, r: &mut Random) {
-    let (offset, width, value) = r.pick(&[
-        (2, 2, 0),
-        (2, 2, 1_000),
-        (2, 2, 999),
-        (2, 2, 65_535),
-        (4, 4, WEEK),
-        (4, 4, WEEK - 1),
-        (4, 4, u32::MAX),
-        (8, 4, WEEK + 1),
-        (8, 4, WEEK),
-        (8, 4, 0),
-        (8, 4, u32::MAX),
-        (12, 4, 0),
-        (12, 4, MILLION),
-        (12, 4, MILLION + 1),
-        (12, 4, u32::MAX),
-        (8, 4, u32::MAX - 1),
-        (4, 4, 0),
-    ]);
+/// Where a field lies, its width, and a value at or past its bounds.
+type Edge = (usize, usize, u32);
+
+const DOSE_EDGES: [Edge; 17] = [
+    (2, 2, 0),
+    (2, 2, 1_000),
+    (2, 2, 999),
+    (2, 2, 65_535),
+    (4, 4, WEEK),
+    (4, 4, WEEK - 1),
+    (4, 4, u32::MAX),
+    (8, 4, WEEK + 1),
+    (8, 4, WEEK),
+    (8, 4, 0),
+    (8, 4, u32::MAX),
+    (12, 4, 0),
+    (12, 4, MILLION),
+    (12, 4, MILLION + 1),
+    (12, 4, u32::MAX),
+    (8, 4, u32::MAX - 1),
+    (4, 4, 0),
+];
+
+const FAN_EDGES: [Edge; 13] = [
+    (1, 1, 0),
+    (1, 1, 8),
+    (1, 1, 9),
+    (1, 1, 255),
+    (4, 4, 0),
+    (4, 4, 1),
+    (4, 4, MILLION),
+    (4, 4, MILLION + 1),
+    (8, 4, 0),
+    (8, 4, MILLION),
+    (8, 4, MILLION + 1),
+    (8, 4, u32::MAX),
+    (4, 4, u32::MAX),
+];
+
+/// A field of the record at `at` put to one of its edges.
+fn to_edge(bytes: &mut [u8], at: usize, edges: &[Edge], r: &mut Random) {
+    let (offset, width, value) = r.pick(edges);
     put(&mut bytes[at..], offset, width, value);
-    if r.once_in(4) {
-        let release = crate::orders::number(&bytes[at..], 4, 4);
-        put(&mut bytes[at..], 8, 4, release.wrapping_add(r.below(2) as u32));
-    }
 }
 
-fn bad_fan(bytes: &mut [u8], at: usize, r: &mut Random) {
-    let (offset, width, value) = r.pick(&[
-        (1, 1, 0),
-        (1, 1, 8),
-        (1, 1, 9),
-        (1, 1, 255),
-        (4, 4, 0),
-        (4, 4, 1),
-        (4, 4, MILLION),
-        (4, 4, MILLION + 1),
-        (8, 4, 0),
-        (8, 4, MILLION),
-        (8, 4, MILLION + 1),
-        (8, 4, u32::MAX),
-        (4, 4, u32::MAX),
-    ]);
-    put(&mut bytes[at..], offset, width, value);
+/// A deadline at the release or a second after it.
+fn short_window(bytes: &mut [u8], at: usize, r: &mut Random) {
+    let release = number(&bytes[at..], 4, 4);
+    put(&mut bytes[at..], 8, 4, release.wrapping_add(r.below(2) as u32));
 }
 
 /// A dose in the bay of another, overlapping, touching or apart by a second.
 fn same_bay(bytes: &mut Vec<u8>, at: usize, r: &mut Random) {
-    let field = |o, w| crate::orders::number(&bytes[at..], o, w);
+    let field = |o, w| number(&bytes[at..], o, w);
     let (bay, release, deadline) = (field(2, 2), field(4, 4), field(8, 4));
     let (a, b) = match r.below(4) {
         0 => (deadline.saturating_add(r.below(2) as u32).saturating_sub(1), deadline.saturating_add(2)),
@@ -106,12 +110,15 @@ fn spoil(bytes: &mut Vec<u8>, r: &mut Random) {
         }
         4 | 5 => {
             if let Some(at) = any(r, &doses) {
-                bad_dose(bytes, at, r);
+                to_edge(bytes, at, &DOSE_EDGES, r);
+                if r.once_in(4) {
+                    short_window(bytes, at, r);
+                }
             }
         }
         6 => {
             if let Some(at) = any(r, &fans) {
-                bad_fan(bytes, at, r);
+                to_edge(bytes, at, &FAN_EDGES, r);
             }
         }
         7 => match any(r, &fans) {

@@ -23,7 +23,8 @@ pub fn plan(order: &[u8]) -> String {
     }
 }
 
-fn lines(house: &House, slots: &[Slot]) -> String {
+/// The lines of a plan with these slots.
+pub fn lines(house: &House, slots: &[Slot]) -> String {
     let mut text = String::new();
     for (i, c) in house.classes.iter().enumerate() {
         writeln!(text, "class {} {} {} {}", i + 1, c.set.count_ones(), c.grams, c.time).unwrap();

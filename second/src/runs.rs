@@ -2,6 +2,7 @@
 
 use crate::compare::{case, order_of, Difference, Measure};
 use crate::library::Peer;
+use crate::machine::today;
 use crate::random::Random;
 use crate::tally::Tally;
 use std::io::Write;
@@ -36,7 +37,7 @@ fn keep(seed: u64, number: u64, d: &Difference) {
 
 /// Runs cases `from` to `from + cases`; true if no case differed.
 pub fn run(peer: &dyn Peer, cases: u64, seed: u64, from: u64, threads: u64, measure: Measure) -> bool {
-    println!("seed {seed}, cases {from} to {}, threads {threads}", from + cases);
+    println!("comparing with the {}: seed {seed}, cases {from} to {}, threads {threads}", peer.name(), from + cases);
     let (next, done, over) = (AtomicU64::new(from), AtomicU64::new(0), AtomicBool::new(false));
     let found = Mutex::new(Vec::new());
     let total = Mutex::new(Tally::default());
@@ -76,6 +77,7 @@ pub fn run(peer: &dyn Peer, cases: u64, seed: u64, from: u64, threads: u64, meas
     });
     let found = found.into_inner().unwrap();
     total.into_inner().unwrap().print();
-    println!("{:.1} s, {} differences, seed {seed}", began.elapsed().as_secs_f64(), found.len());
+    let (seconds, n) = (began.elapsed().as_secs_f64(), found.len());
+    println!("{}, {}: cases {from} to {} of seed {seed}, {n} differences, {seconds:.1} s", today(), peer.name(), from + cases);
     found.is_empty()
 }

@@ -1,8 +1,7 @@
-//! The sample orders, and what the printer says of each.
+//! The sample orders.
 
 use crate::cases::p2;
 use crate::orders::{write, Dose, Order};
-use crate::printer;
 use std::path::Path;
 
 const HARD: &[u8] = include_bytes!("../../samples/hard.order");
@@ -50,18 +49,12 @@ pub fn all() -> Vec<(&'static str, Vec<u8>)> {
     vec![("p2", write(&p2(), 0)), ("house", write(&house(), 0)), ("fast", write(&fast, 0)), ("damaged", damaged), ("hard", HARD.to_vec())]
 }
 
-/// Writes NAME.order and NAME.txt for each sample.
+/// Writes NAME.order for each sample; the texts beside them are the printer's own.
 pub fn make(folder: &str) -> bool {
-    for (name, bytes) in all() {
-        let text = printer::plan(&bytes);
-        for (end, content) in [("order", bytes.as_slice()), ("txt", text.as_bytes())] {
-            let file = Path::new(folder).join(format!("{name}.{end}"));
-            if let Err(e) = std::fs::write(&file, content) {
-                println!("{}: {e}", file.display());
-                return false;
-            }
-        }
-        println!("{name}: {} bytes, {}", bytes.len(), text.lines().last().unwrap_or(""));
-    }
-    true
+    all().into_iter().all(|(name, bytes)| {
+        let file = Path::new(folder).join(format!("{name}.order"));
+        let written = std::fs::write(&file, &bytes);
+        println!("{}: {}", file.display(), written.as_ref().map_or_else(ToString::to_string, |()| format!("{} bytes", bytes.len())));
+        written.is_ok()
+    })
 }

@@ -1,17 +1,17 @@
 //! The second program held against document 01's examples and against itself.
 
 use crate::answers::{accept, House, OWN};
-use crate::cases;
+use crate::checks;
 use crate::classes::{by_flow, by_subsets};
-use crate::compare::{Measure, USUAL};
+use crate::compare::LITTLE;
 use crate::demand3::sentences;
 use crate::intervals::Intervals;
 use crate::layout::{plan_bytes, Slot};
-use crate::orders::{write, Order};
+use crate::orders::{write, Order, RECORD};
 use crate::random::Random;
 use crate::runs;
-use crate::stands::CLAUSES;
-use crate::{alone, styles, variants};
+use crate::stands::{Broken, CLAUSES};
+use crate::{alone, clauses, styles, variants};
 use std::time::Instant;
 
 fn fail(what: &str, case: u64, order: &Order) -> bool {
@@ -90,19 +90,69 @@ fn plans(cases: u64, seed: u64) -> bool {
     true
 }
 
-/// A second, slower judge for slots that were read: clauses in pairs, by exact fractions of one grid.
-fn pairs_apart(slots: &[Slot]) -> bool {
-    let meets = |a: &Slot, b: &Slot| {
-        let x = |s: u64, other: &Slot| u128::from(s) * u128::from(other.grams);
-        x(a.from(), b) < x(b.to(), a) && x(b.from(), a) < x(a.to(), b)
-    };
-    slots.iter().enumerate().all(|(i, a)| slots[..i].iter().all(|b| !(meets(a, b) && (a.fan == b.fan || a.dose == b.dose))))
+/// Records in a plan beyond which its pairs of slots are too many to be looked at for every byte.
+const MANY: usize = 64;
+
+/// Both judges on one plan: they agree whether it stands, and what one finds broken first is among what the other finds.
+/// The answer is the verdict and how many clauses are broken, if that was counted.
+fn judged(house: &House, plan: &[u8]) -> Result<(Result<Vec<Slot>, Broken>, usize), String> {
+    let own = house.stands(plan);
+    if own.is_err() && plan.len() > MANY * RECORD {
+        return Ok((own, 0));
+    }
+    let all = clauses::broken(house, plan);
+    let agree = own.as_ref().map_or_else(|clause| all.contains(clause), |_| all.is_empty());
+    if agree {
+        Ok((own, all.len()))
+    } else {
+        Err(format!("one judge says {:?}, the other {all:?}", own.err()))
+    }
 }
 
-/// Plans damaged at every byte: a verdict each, and those that still stand keep the pairs apart and demand 3.
+/// How often each clause was broken: by damage, on purpose, and on purpose with no other clause broken.
+#[derive(Default)]
+struct Met {
+    by_damage: [u64; CLAUSES.len()],
+    on_purpose: [u64; CLAUSES.len()],
+    alone: [u64; CLAUSES.len()],
+    standing: u64,
+}
+
+impl Met {
+    fn spoil(&mut self, house: &House, plan: &[u8], slots: &[Slot], r: &mut Random) -> Result<(), String> {
+        for (clause, bytes) in alone::each(house, plan, slots, r) {
+            let i = place(clause);
+            match judged(house, &bytes)? {
+                (Err(found), count) if found == clause => {
+                    self.on_purpose[i] += 1;
+                    self.alone[i] += u64::from(count == 1);
+                }
+                (other, _) => return Err(format!("{clause} broken on purpose, judged {other:?}")),
+            }
+        }
+        let every = (0..plan.len()).map(|at| (at, false));
+        for (at, whole) in every.chain((0..100).map(|i| (i, true))) {
+            let bytes = if whole { variants::damage(plan, r) } else { variants::damage_byte(plan, at, r) };
+            match judged(house, &bytes)?.0 {
+                Err(clause) => self.by_damage[place(clause)] += 1,
+                Ok(slots) => {
+                    self.standing += 1;
+                    sentences(house, &slots, 4, r).map_err(|what| format!("a damaged plan that stands: {what}"))?;
+                }
+            }
+        }
+        Ok(())
+    }
+}
+
+fn place(clause: Broken) -> usize {
+    CLAUSES.iter().position(|c| *c == clause).expect("every clause is listed")
+}
+
+/// Plans damaged at every byte: one verdict of both judges each, and those that still stand keep demand 3.
 fn damage(cases: u64, seed: u64) -> bool {
     let began = Instant::now();
-    let (mut broken, mut alone, mut standing) = ([0u64; CLAUSES.len()], [0u64; CLAUSES.len()], 0);
+    let mut met = Met::default();
     for case in 0..cases {
         let mut r = Random::of_case(seed ^ 0x5A5A, case);
         let (mut order, _) = styles::valid(&mut r);
@@ -110,50 +160,25 @@ fn damage(cases: u64, seed: u64) -> bool {
         let Ok(house) = accept(&write(&order, 0)) else { continue };
         let plan = variants::standing(&house, &mut r);
         let slots = house.stands(&plan).expect("a standing plan");
-        for (clause, bytes) in alone::each(&house, &plan, &slots, &mut r) {
-            let i = CLAUSES.iter().position(|c| *c == clause).expect("listed");
-            alone[i] += 1;
-            match house.stands(&bytes) {
-                Err(found) if found == clause => {}
-                other => return fail(&format!("{clause} broken on purpose, judged {other:?}"), case, &order),
-            }
-        }
-        let every = (0..plan.len()).map(|at| (at, false));
-        for (at, whole) in every.chain((0..100).map(|i| (i, true))) {
-            let bytes = if whole { variants::damage(&plan, &mut r) } else { variants::damage_byte(&plan, at, &mut r) };
-            match house.stands(&bytes) {
-                Err(clause) => broken[CLAUSES.iter().position(|c| *c == clause).expect("listed")] += 1,
-                Ok(slots) => {
-                    standing += 1;
-                    if !pairs_apart(&slots) {
-                        return fail("two slots of a fan or a dose meet", case, &order);
-                    }
-                    if let Err(what) = sentences(&house, &slots, 4, &mut r) {
-                        return fail(&format!("a damaged plan that stands: {what}"), case, &order);
-                    }
-                }
-            }
+        if let Err(what) = met.spoil(&house, &plan, &slots, &mut r) {
+            return fail(&what, case, &order);
         }
     }
-    for ((clause, n), m) in CLAUSES.iter().zip(broken).zip(alone) {
-        println!("  by damage {n:>8}, on purpose {m:>6}  {clause}");
+    for (i, clause) in CLAUSES.iter().enumerate() {
+        println!("  by damage {:>8}, on purpose {:>6}, alone {:>6}  {clause}", met.by_damage[i], met.on_purpose[i], met.alone[i]);
     }
-    let total: u64 = broken.iter().sum();
-    took(&format!("{} damaged plans judged, {total} broken, {standing} still stand", total + standing), began);
-    broken.iter().chain(&alone).all(|&n| n > 0) || cases < 200
+    let total: u64 = met.by_damage.iter().sum();
+    took(&format!("{} damaged plans judged, {total} broken, {} still stand", total + met.standing, met.standing), began);
+    met.by_damage.iter().chain(&met.alone).all(|&n| n > 0) || cases < 200
 }
 
 pub fn run(cases: u64, seed: u64) -> bool {
     println!("seed {seed}, cases {cases}");
-    let table = cases::run();
-    println!("P1 to P12, the run line, states and pens: {} checks, {} failed", table.done, table.failed);
-    let mut good = table.failed == 0;
+    let mut good = checks::run(&OWN);
     good = classes(2 * cases, seed) && good;
     good = plans(cases, seed) && good;
     good = damage(cases / 4, seed) && good;
-    let few = Measure { bytes: 64, points: 10, moments: 5 };
-    println!("the comparison with itself:");
-    good = runs::run(&OWN, cases / 20, seed, 0, 1, if cases > 100_000 { USUAL } else { few }) && good;
+    good = runs::run(&OWN, cases / 20, seed, 0, 1, LITTLE) && good;
     println!("{}", if good { "self-test passed" } else { "self-test FAILED" });
     good
 }

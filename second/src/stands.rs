@@ -30,7 +30,7 @@ pub const CLAUSES: [Broken; 18] = [
     "total",
 ];
 
-fn slot_of(r: &[u8]) -> Slot {
+pub fn slot_of(r: &[u8]) -> Slot {
     Slot {
         fan: number(r, 1, 1),
         dose: number(r, 2, 2),
@@ -111,9 +111,6 @@ pub fn stands(order: &Order, spans: &Intervals, classes: &[Class], plan: &[u8]) 
                 }
             }
             b'S' => {
-                if seen != classes.len() {
-                    return Err("classes missing");
-                }
                 if !zero(r, 29, 32) {
                     return Err("zero byte");
                 }

@@ -190,9 +190,13 @@ pub fn valid(r: &mut Random) -> (Order, usize) {
     (order, style)
 }
 
-/// An order of exactly `n` doses over the week, for measuring.
-pub fn week(n: usize, r: &mut Random) -> Order {
-    let list = windows(6, n, r);
+/// Styles of orders for measuring.
+pub const OVER_THE_WEEK: usize = 6;
+pub const SPREAD: usize = 12;
+
+/// An order of exactly `n` doses of one of these, for measuring.
+pub fn exactly(n: usize, style: usize, r: &mut Random) -> Order {
+    let list = windows(style, n, r);
     Order { fans: r.range(1, 8), top_grams: MILLION, top_seconds: 1, doses: own_bays(list, r) }
 }
 

@@ -1,0 +1,205 @@
+//! The page of benchmarks, written whole by one command from the project's root.
+
+use crate::answers::OWN_FLOW;
+use crate::bench::{chains, hard_orders, measure, random_orders, stacks, Times, ENTRIES, TIMED};
+use crate::glpk;
+use crate::library::Peer;
+use crate::machine::{processor, today};
+use crate::near;
+use crate::orders::read;
+use crate::random::Random;
+use crate::styles::{OVER_THE_WEEK, SPREAD};
+use std::fmt::Write;
+use std::process::Command;
+
+const SIZES: [usize; 4] = [1, 6, 12, 24];
+const GROWTH: [usize; 9] = [1, 3, 6, 9, 12, 15, 18, 21, 24];
+/// Orders of each size that `glpsol` is asked.
+const GLPK_ORDERS: usize = 10;
+/// Orders of each kind whose stacks are looked at.
+const STACK_ORDERS: usize = 300;
+const STACK: usize = 64 << 10;
+/// Where the summary lines of long comparisons are kept.
+const LONG_RUNS: &str = "second/long-run.txt";
+
+#[cfg(feature = "library")]
+const SIDES: &[&dyn Peer] = &[&crate::library::Library, &OWN_FLOW];
+#[cfg(not(feature = "library"))]
+const SIDES: &[&dyn Peer] = &[&OWN_FLOW];
+
+/// Why a figure is missed, by what was asked.
+const REASONS: [(&str, &str); 0] = [];
+
+/// Something asked, and what was measured of it.
+struct Figure {
+    asked: &'static str,
+    measured: String,
+    met: bool,
+}
+
+/// A table's head: the given columns, then one for each side.
+fn head(text: &mut String, columns: &[&str], after: &[&str]) {
+    let all: Vec<&str> = columns.iter().copied().chain(SIDES.iter().map(|s| s.name())).chain(after.iter().copied()).collect();
+    writeln!(text, "| {} |\n|{}", all.join(" | "), "---|".repeat(all.len())).unwrap();
+}
+
+/// The orders that are measured at each number of doses.
+fn kinds(n: usize, count: usize, r: &mut Random) -> [(&'static str, Vec<Vec<u8>>); 3] {
+    let (week, spread) = (random_orders(n, OVER_THE_WEEK, count, r), random_orders(n, SPREAD, count, r));
+    [("random", week), ("spread", spread), ("hard", hard_orders(n))]
+}
+
+/// The table of times; the answer is those of the last size, by kind of order.
+fn times(text: &mut String, count: usize, r: &mut Random) -> Vec<Vec<Times>> {
+    head(text, &["doses", "orders", "asked"], &["glpk, shares only"]);
+    let mut last = Vec::new();
+    for n in SIZES {
+        last.clear();
+        for (kind, orders) in kinds(n, count, r) {
+            let sides = measure(SIDES, &orders);
+            let shares = glpk::time(&orders[..orders.len().min(GLPK_ORDERS)]).map_or_else(String::from, |t| format!("{t:.0}"));
+            for (i, entry) in ENTRIES.iter().enumerate() {
+                let cells: Vec<String> = sides.iter().map(|t| format!("{:.1}", t.entries[i])).collect();
+                let shares = if i == 0 { &shares } else { "" };
+                writeln!(text, "| {n} | {kind} | {entry} | {} | {shares} |", cells.join(" | ")).unwrap();
+            }
+            last.push(sides);
+        }
+    }
+    last
+}
+
+fn growth(text: &mut String, count: usize, r: &mut Random) {
+    head(text, &["doses", "orders"], &["slots", "second program's chains"]);
+    for n in GROWTH {
+        for (kind, orders) in kinds(n, count, r) {
+            let sides = measure(SIDES, &orders);
+            let cells: Vec<String> = sides.iter().map(|t| format!("{:.0} ({:.0})", t.entries[0], t.slowest)).collect();
+            writeln!(text, "| {n} | {kind} | {} | {} | {} |", cells.join(" | "), sides[0].slots, chains(&orders)).unwrap();
+        }
+    }
+}
+
+/// What tests/chains counts in the built printer.
+fn searches(text: &mut String) {
+    let said = Command::new("tests/chains").output().ok().filter(|o| !o.stdout.is_empty());
+    match said {
+        Some(output) => String::from_utf8_lossy(&output.stdout).lines().for_each(|line| writeln!(text, "- {line}").unwrap()),
+        None => *text += "- not counted in this run: it needs valgrind and the built printer\n",
+    }
+}
+
+/// The greatest stacks of each side; the answer is the library's. Spread orders lead to the longest chains.
+fn stack_table(text: &mut String, r: &mut Random) -> [usize; 4] {
+    let mut orders: Vec<Vec<u8>> = kinds(24, STACK_ORDERS, r).into_iter().flat_map(|(_, orders)| orders).collect();
+    let valid = std::iter::repeat_with(|| near::bytes(r)).filter(|bytes| read(bytes).is_ok());
+    orders.extend(valid.take(STACK_ORDERS));
+    writeln!(text, "| side | {} |\n|---|---|---|---|---|", ENTRIES.join(" | ")).unwrap();
+    let all: Vec<[usize; 4]> = SIDES.iter().map(|side| stacks(*side, &orders)).collect();
+    for (side, used) in SIDES.iter().zip(&all) {
+        let cells: Vec<String> = used.iter().map(usize::to_string).collect();
+        writeln!(text, "| {} | {} |", side.name(), cells.join(" | ")).unwrap();
+    }
+    all[0]
+}
+
+/// What was asked of the library, from the times at 24 doses and its stacks.
+fn figures(kinds: &[Vec<Times>], used: [usize; 4]) -> Vec<Figure> {
+    let [library, second] = &kinds[0][..] else { return Vec::new() };
+    let plan = library.entries[0];
+    let (beside, part) = (plan / second.entries[0], library.entries[1] / plan);
+    let (hard, spread) = (kinds[2][0].slowest / 1_000.0, kinds[1][0].slowest / 1_000.0);
+    let mut list = vec![
+        Figure {
+            asked: "planning random orders of 24 doses: at most 1.5 times the second program's flow",
+            measured: format!("{beside:.2} times"),
+            met: beside <= 1.5,
+        },
+        Figure {
+            asked: "planning hard orders of 24 doses: bounded, at most 50 milliseconds",
+            measured: format!("hard sample {hard:.1}, slowest of the spread orders {spread:.1}"),
+            met: hard.max(spread) <= 50.0,
+        },
+        Figure { asked: "judging: at most a quarter of planning", measured: format!("{part:.3}"), met: part <= 0.25 },
+        Figure { asked: "judging, the aim: a tenth of planning", measured: format!("{part:.3}"), met: part <= 0.1 },
+        Figure {
+            asked: "a point: at most 20 microseconds beyond judging the same bytes",
+            measured: format!("{:.1} beyond, {:.1} in all", library.beyond, library.entries[2]),
+            met: library.beyond <= 20.0,
+        },
+    ];
+    let asked =
+        ["plan: under 64 KiB of stack", "judge: under 64 KiB of stack", "point: under 64 KiB of stack", "pen step: under 64 KiB of stack"];
+    list.extend(asked.into_iter().zip(used).map(|(asked, used)| Figure { asked, measured: format!("{used} bytes"), met: used < STACK }));
+    list
+}
+
+fn asked(text: &mut String, list: &[Figure]) {
+    *text += "| asked | measured | met |\n|---|---|---|\n";
+    for f in list {
+        writeln!(text, "| {} | {} | {} |", f.asked, f.measured, if f.met { "yes" } else { "missed: see below" }).unwrap();
+    }
+    for f in list.iter().filter(|f| !f.met) {
+        let reason = REASONS.iter().find(|(asked, _)| *asked == f.asked).map_or("not explained yet.", |(_, reason)| reason);
+        writeln!(text, "\nMissed, {}: {reason}", f.asked).unwrap();
+    }
+}
+
+/// How the times are taken, and of what.
+const TIMES: &str = "
+This page is written whole by `second bench` (see `second/README.md`). Times are microseconds. Each call is warmed once and timed TIMED times, \
+and the figure is the median over COUNT orders. Random: windows and grams anywhere in the week, 1 to 8 fans. Spread: every release in the first \
+half of the week, every deadline in the second, which makes the longest chains. Hard: the first doses of `samples/hard.order`. The sides take \
+turns, order by order, in one run. The second program is built without overflow checks and finds classes and shares by its flow. The plan \
+buffer is not cleared between calls.
+
+glpk (`glpsol` of Debian's glpk-utils) is given a part of planning only: the classes are known, and it finds the shares of all classes as one \
+linear program in the CPLEX format. It has a variable for each dose and open interval of its class, from 0 to the interval's length; a dose's \
+variables add up to at most its need, those of a class in an interval to at most its reserved time; and it asks for the greatest total, which \
+must come out as all needs. The figure is the time from start to end of `glpsol`, the median of five, less that of a run on a program of one \
+variable; so it counts reading the program and writing the answer. It is the median over the first ten orders, and glpk counts in floats.
+";
+
+const STACKS: &str = "
+The deepest use in bytes: the stack is painted, the call made, and the paint looked at; some 600 bytes of it are the caller's. Over STACKED \
+random and spread orders of 24 doses, the hard sample, and as many orders of every style; judging and drawing with the planner's plan and \
+with one that lacks its last record, for which the classes are computed.
+
+";
+
+fn page(count: usize) -> String {
+    let mut r = Random::new(1);
+    let mut text = format!("# Benchmarks\n\nProcessor: {}. Date: {}.\n", processor(), today());
+    text += &TIMES.replace("TIMED", &TIMED.to_string()).replace("COUNT", &count.to_string());
+    text += "\n## Times\n\n";
+    let last = times(&mut text, count, &mut r);
+    text += "\n## How planning grows with the doses\n\nThe median, and in brackets the slowest order.\n\n";
+    growth(&mut text, count, &mut r);
+    text += "\nThe chains are those that the second program's flow pushes for the shares of an order, without the search for classes.\n";
+    text += "\n## Searches for chains in the library\n\nCounted by `tests/chains`, for classes and shares; a search pushes one chain or finds none.\n\n";
+    searches(&mut text);
+    text += "\n## Stack\n";
+    text += &STACKS.replace("STACKED", &STACK_ORDERS.to_string());
+    let used = stack_table(&mut text, &mut r);
+    text += "\n## Asked and measured\n\nReading the bytes is taken as judging them: a point checks 2 to 10 first, by its definition.\n\n";
+    asked(&mut text, &figures(&last, used));
+    text += "\n## Random cases\n\nThe last lines of `second compare`, kept in `second/long-run.txt`:\n\n";
+    match std::fs::read_to_string(LONG_RUNS) {
+        Ok(runs) => runs.lines().for_each(|line| writeln!(text, "- {line}").unwrap()),
+        Err(_) => text += "- none yet\n",
+    }
+    text
+}
+
+/// Measures and prints; with a file name, writes the page there too.
+pub fn run(count: usize, file: Option<&str>) -> bool {
+    let text = page(count);
+    print!("{text}");
+    match file.map(|name| std::fs::write(name, &text)) {
+        Some(Err(e)) => {
+            println!("could not be written: {e}");
+            false
+        }
+        _ => true,
+    }
+}
