@@ -69,7 +69,8 @@ type Line = [u32; 7];
 /// What a plan's own bytes say: of each class the doses in its slots, W and P; and the slots.
 fn said(plan: &[u8]) -> (Vec<Said>, Vec<Line>) {
     let (heads, slots): (Vec<&[u8]>, Vec<&[u8]>) = plan.chunks(RECORD).partition(|r| r[0] == b'C');
-    let doses = |class: &[u8]| slots.iter().filter(|s| s[28] == class[1]).fold(0, |set, s| set | 1 << number(s, 2, 2));
+    let doses =
+        |class: &[u8]| slots.iter().filter(|s| s[28] == class[1]).fold(0, |set, s| set | 1u32.checked_shl(number(s, 2, 2)).unwrap_or(0));
     let line = |s: &&[u8]| {
         [number(s, 1, 1), number(s, 2, 2), number(s, 4, 4), number(s, 8, 4), number(s, 12, 4), number(s, 16, 4), number(s, 28, 1)]
     };

@@ -156,8 +156,9 @@ buffer is not cleared between calls.
 glpk (`glpsol` of Debian's glpk-utils) is given a part of planning only: the classes are known, and it finds the shares of all classes as one \
 linear program in the CPLEX format. It has a variable for each dose and open interval of its class, from 0 to the interval's length; a dose's \
 variables add up to at most its need, those of a class in an interval to at most its reserved time; and it asks for the greatest total, which \
-must come out as all needs. The figure is the time from start to end of `glpsol`, the median of five, less that of a run on a program of one \
-variable; so it counts reading the program and writing the answer. It is the median over the first ten orders, and glpk counts in floats.
+must come out as all needs. The figure is the time from start to end of the quickest of 15 runs of `glpsol`, less that of the quickest \
+run on a program of one variable, in turn; so it counts reading the program and writing the answer. It is the median over the first ten \
+orders. glpk counts in floats.
 ";
 
 const STACKS: &str = "
