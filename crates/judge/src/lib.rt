@@ -14,10 +14,10 @@ ghost use Rattle.judge.specs.Verdict.{Certifies, asAnswer};
 ghost use Rattle.clauses.specs.Tests.{Tells, RowsPass, Passes, Finds, sheet};
 
 // Whether plan bytes stand, how many C records are in front, and the class number of each dose.
-pub struct Found {
-    pub stands: bool,
-    pub classes: usize,
-    pub numbers: [u32; 24],
+struct Found {
+    stands: bool,
+    classes: usize,
+    numbers: [u32; 24],
 }
 
 // What judging answers: the plan stands; the order's refusal 2 to 8 with its place; 9 with the first class as a set, its W and P; 10.
@@ -150,7 +150,7 @@ fn intervals_in(instants: usize) -> usize
 }
 
 // Whether plan bytes stand for an order: "no share is raised", and the cost grows with the plan's length.
-pub fn certify(o: Order, plan: &[u8]) -> Found
+fn certify(o: Order, plan: &[u8]) -> Found
     requires { ⌜ Fit (asOrder o) ⌝ }
     ensures { λ r. ⌜ Certifies (asOrder o) (now (plan .entry)) (r .stands) (r .classes) (r .numbers) ⌝ }
 {
