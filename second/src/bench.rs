@@ -13,7 +13,8 @@ const HARD: &[u8] = include_bytes!("../../samples/hard.order");
 /// Calls that are timed, after one to warm.
 pub const TIMED: usize = 15;
 
-pub const ENTRIES: [&str; 4] = ["plan", "judge", "point", "pen step"];
+/// What is timed: the four entry points, and judging a plan that lacks its last record.
+pub const ENTRIES: [&str; 5] = ["plan", "judge", "point", "pen step", "judge, a plan that falls"];
 
 /// Keeps an answer from being left out.
 fn spend<T>(answer: T) {
@@ -45,7 +46,7 @@ fn plan_of(peer: &dyn Peer, order: &[u8]) -> Vec<u8> {
 
 /// Medians over some orders, in microseconds.
 pub struct Times {
-    pub entries: [f64; 4],
+    pub entries: [f64; 5],
     /// Planning the slowest order.
     pub slowest: f64,
     /// What a point costs beyond judging the same bytes.
@@ -55,7 +56,7 @@ pub struct Times {
 
 /// Measures some peers on the same orders, order by order.
 pub fn measure(peers: &[&dyn Peer], orders: &[Vec<u8>]) -> Vec<Times> {
-    let mut rows: Vec<Vec<([f64; 4], usize)>> = vec![Vec::new(); peers.len()];
+    let mut rows: Vec<Vec<([f64; 5], usize)>> = vec![Vec::new(); peers.len()];
     let mut buffer = vec![0; PLAN_BUFFER];
     for bytes in orders {
         let order = read(bytes).expect("an order to measure");
@@ -69,12 +70,13 @@ pub fn measure(peers: &[&dyn Peer], orders: &[Vec<u8>]) -> Vec<Times> {
                 time(|| spend(peer.judge(black_box(bytes), &plan))),
                 time(|| spend(peer.point(black_box(bytes), &plan, dose, middle))),
                 time(|| spend(peer.advance(black_box(bytes), &plan, dose, &mut pen))),
+                time(|| spend(peer.judge(black_box(bytes), &plan[..plan.len() - RECORD]))),
             ];
             row.push((entries, plan.chunks(RECORD).filter(|r| r[0] == b'S').count()));
         }
     }
-    let over = |row: &[([f64; 4], usize)]| Times {
-        entries: [0, 1, 2, 3].map(|i| median(row.iter().map(|(entries, _)| entries[i]).collect())),
+    let over = |row: &[([f64; 5], usize)]| Times {
+        entries: [0, 1, 2, 3, 4].map(|i| median(row.iter().map(|(entries, _)| entries[i]).collect())),
         slowest: row.iter().map(|(entries, _)| entries[0]).fold(0.0, f64::max),
         beyond: median(row.iter().map(|(entries, _)| entries[2] - entries[1]).collect()),
         slots: median(row.iter().map(|(_, slots)| *slots).collect()),
