@@ -1,7 +1,7 @@
 //! Measuring: times of the four entry points, chains and stacks.
 
 use crate::answers::{accept, PLAN_BUFFER};
-use crate::library::{stack_use, Peer};
+use crate::library::{stack_use, Drawn, Judged, Peer, Planned};
 use crate::orders::{read, write, Order, RECORD};
 use crate::random::Random;
 use crate::styles;
@@ -102,19 +102,56 @@ pub fn chains(orders: &[Vec<u8>]) -> u64 {
     median(orders.iter().map(|b| accept(b).map_or(0, |h| h.shares(None).1)).collect())
 }
 
-/// Deepest stack use of the four entry points over some orders, in bytes; all but planning with a plan that stands and with one that falls.
-pub fn stacks(peer: &dyn Peer, orders: &[Vec<u8>]) -> [usize; 4] {
-    let mut deepest = [0; 4];
+/// Answers at once: what it takes of the stack is the measuring's own.
+struct Nobody;
+
+impl Peer for Nobody {
+    fn name(&self) -> &'static str {
+        "nobody"
+    }
+
+    fn plan(&self, order: &[u8], plan: &mut [u8]) -> Planned {
+        black_box((order, plan));
+        Planned::default()
+    }
+
+    fn judge(&self, order: &[u8], plan: &[u8]) -> Judged {
+        black_box((order, plan));
+        Judged::default()
+    }
+
+    fn point(&self, order: &[u8], plan: &[u8], dose: usize, tick: u32) -> Drawn {
+        black_box((order, plan, dose, tick));
+        Drawn::default()
+    }
+
+    fn advance(&self, order: &[u8], plan: &[u8], dose: usize, tick: &mut u32) -> Drawn {
+        black_box((order, plan, dose, tick));
+        Drawn::default()
+    }
+}
+
+/// Stack use of the four entry points with one plan.
+fn stacks_with(peer: &dyn Peer, order: &[u8], plan: &[u8]) -> [usize; 4] {
     let mut buffer = vec![0; PLAN_BUFFER];
+    [
+        stack_use(|| spend(peer.plan(order, &mut buffer))),
+        stack_use(|| spend(peer.judge(order, plan))),
+        stack_use(|| spend(peer.point(order, plan, 0, 1))),
+        stack_use(|| spend(peer.advance(order, plan, 0, &mut 1))),
+    ]
+}
+
+/// Deepest stack use of the four entry points over some orders, in bytes, with a plan that stands and with one that falls.
+pub fn stacks(peer: &dyn Peer, orders: &[Vec<u8>]) -> [usize; 4] {
+    let own = stacks_with(&Nobody, &[], &[]);
+    let mut deepest = own;
     for order in orders {
         let plan = plan_of(peer, order);
-        let mut fell = |i: usize, used: usize| deepest[i] = used.max(deepest[i]);
-        fell(0, stack_use(|| spend(peer.plan(order, &mut buffer))));
         for plan in [&plan[..], &plan[..plan.len().saturating_sub(RECORD)]] {
-            fell(1, stack_use(|| spend(peer.judge(order, plan))));
-            fell(2, stack_use(|| spend(peer.point(order, plan, 0, 1))));
-            fell(3, stack_use(|| spend(peer.advance(order, plan, 0, &mut 1))));
+            let used = stacks_with(peer, order, plan);
+            deepest.iter_mut().zip(used).for_each(|(most, used)| *most = used.max(*most));
         }
     }
-    deepest
+    [0, 1, 2, 3].map(|i| deepest[i] - own[i])
 }

@@ -166,7 +166,7 @@ orders. glpk counts in floats.
 ";
 
 const STACKS: &str = "
-The deepest use in bytes: the stack is painted, the call made, and the paint looked at; some 600 bytes of it are the caller's. Over STACKED \
+The deepest use in bytes: the stack is painted, the call made, and the paint looked at, less what a call takes that answers at once. Over STACKED \
 random and spread orders of 24 doses, the hard sample, and as many orders of every style; judging and drawing with the planner's plan and \
 with one that lacks its last record, for which the classes are computed.
 
