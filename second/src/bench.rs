@@ -1,7 +1,7 @@
 //! Measuring: times of the four entry points, chains and stacks.
 
 use crate::answers::{accept, PLAN_BUFFER};
-use crate::library::{stack_use, Peer};
+use crate::library::{stack_use, Drawn, Judged, Peer, Planned};
 use crate::orders::{read, write, Order, RECORD};
 use crate::random::Random;
 use crate::styles;
@@ -13,7 +13,8 @@ const HARD: &[u8] = include_bytes!("../../samples/hard.order");
 /// Calls that are timed, after one to warm.
 pub const TIMED: usize = 15;
 
-pub const ENTRIES: [&str; 4] = ["plan", "judge", "point", "pen step"];
+/// What is timed: the four entry points, and judging a plan that lacks its last record.
+pub const ENTRIES: [&str; 5] = ["plan", "judge", "point", "pen step", "judge, a plan that falls"];
 
 /// Keeps an answer from being left out.
 fn spend<T>(answer: T) {
@@ -45,7 +46,7 @@ fn plan_of(peer: &dyn Peer, order: &[u8]) -> Vec<u8> {
 
 /// Medians over some orders, in microseconds.
 pub struct Times {
-    pub entries: [f64; 4],
+    pub entries: [f64; 5],
     /// Planning the slowest order.
     pub slowest: f64,
     /// What a point costs beyond judging the same bytes.
@@ -55,7 +56,7 @@ pub struct Times {
 
 /// Measures some peers on the same orders, order by order.
 pub fn measure(peers: &[&dyn Peer], orders: &[Vec<u8>]) -> Vec<Times> {
-    let mut rows: Vec<Vec<([f64; 4], usize)>> = vec![Vec::new(); peers.len()];
+    let mut rows: Vec<Vec<([f64; 5], usize)>> = vec![Vec::new(); peers.len()];
     let mut buffer = vec![0; PLAN_BUFFER];
     for bytes in orders {
         let order = read(bytes).expect("an order to measure");
@@ -69,12 +70,13 @@ pub fn measure(peers: &[&dyn Peer], orders: &[Vec<u8>]) -> Vec<Times> {
                 time(|| spend(peer.judge(black_box(bytes), &plan))),
                 time(|| spend(peer.point(black_box(bytes), &plan, dose, middle))),
                 time(|| spend(peer.advance(black_box(bytes), &plan, dose, &mut pen))),
+                time(|| spend(peer.judge(black_box(bytes), &plan[..plan.len() - RECORD]))),
             ];
             row.push((entries, plan.chunks(RECORD).filter(|r| r[0] == b'S').count()));
         }
     }
-    let over = |row: &[([f64; 4], usize)]| Times {
-        entries: [0, 1, 2, 3].map(|i| median(row.iter().map(|(entries, _)| entries[i]).collect())),
+    let over = |row: &[([f64; 5], usize)]| Times {
+        entries: [0, 1, 2, 3, 4].map(|i| median(row.iter().map(|(entries, _)| entries[i]).collect())),
         slowest: row.iter().map(|(entries, _)| entries[0]).fold(0.0, f64::max),
         beyond: median(row.iter().map(|(entries, _)| entries[2] - entries[1]).collect()),
         slots: median(row.iter().map(|(_, slots)| *slots).collect()),
@@ -100,19 +102,56 @@ pub fn chains(orders: &[Vec<u8>]) -> u64 {
     median(orders.iter().map(|b| accept(b).map_or(0, |h| h.shares(None).1)).collect())
 }
 
-/// Deepest stack use of the four entry points over some orders, in bytes; all but planning with a plan that stands and with one that falls.
-pub fn stacks(peer: &dyn Peer, orders: &[Vec<u8>]) -> [usize; 4] {
-    let mut deepest = [0; 4];
+/// Answers at once: what it takes of the stack is the measuring's own.
+struct Nobody;
+
+impl Peer for Nobody {
+    fn name(&self) -> &'static str {
+        "nobody"
+    }
+
+    fn plan(&self, order: &[u8], plan: &mut [u8]) -> Planned {
+        black_box((order, plan));
+        Planned::default()
+    }
+
+    fn judge(&self, order: &[u8], plan: &[u8]) -> Judged {
+        black_box((order, plan));
+        Judged::default()
+    }
+
+    fn point(&self, order: &[u8], plan: &[u8], dose: usize, tick: u32) -> Drawn {
+        black_box((order, plan, dose, tick));
+        Drawn::default()
+    }
+
+    fn advance(&self, order: &[u8], plan: &[u8], dose: usize, tick: &mut u32) -> Drawn {
+        black_box((order, plan, dose, tick));
+        Drawn::default()
+    }
+}
+
+/// Stack use of the four entry points with one plan.
+fn stacks_with(peer: &dyn Peer, order: &[u8], plan: &[u8]) -> [usize; 4] {
     let mut buffer = vec![0; PLAN_BUFFER];
+    [
+        stack_use(|| spend(peer.plan(order, &mut buffer))),
+        stack_use(|| spend(peer.judge(order, plan))),
+        stack_use(|| spend(peer.point(order, plan, 0, 1))),
+        stack_use(|| spend(peer.advance(order, plan, 0, &mut 1))),
+    ]
+}
+
+/// Deepest stack use of the four entry points over some orders, in bytes, with a plan that stands and with one that falls.
+pub fn stacks(peer: &dyn Peer, orders: &[Vec<u8>]) -> [usize; 4] {
+    let own = stacks_with(&Nobody, &[], &[]);
+    let mut deepest = own;
     for order in orders {
         let plan = plan_of(peer, order);
-        let mut fell = |i: usize, used: usize| deepest[i] = used.max(deepest[i]);
-        fell(0, stack_use(|| spend(peer.plan(order, &mut buffer))));
         for plan in [&plan[..], &plan[..plan.len().saturating_sub(RECORD)]] {
-            fell(1, stack_use(|| spend(peer.judge(order, plan))));
-            fell(2, stack_use(|| spend(peer.point(order, plan, 0, 1))));
-            fell(3, stack_use(|| spend(peer.advance(order, plan, 0, &mut 1))));
+            let used = stacks_with(peer, order, plan);
+            deepest.iter_mut().zip(used).for_each(|(most, used)| *most = used.max(*most));
         }
     }
-    deepest
+    [0, 1, 2, 3].map(|i| deepest[i] - own[i])
 }

@@ -94,7 +94,7 @@ fn stack_table(text: &mut String, r: &mut Random) -> [usize; 4] {
     let mut orders: Vec<Vec<u8>> = kinds(24, STACK_ORDERS, r).into_iter().flat_map(|(_, orders)| orders).collect();
     let valid = std::iter::repeat_with(|| near::bytes(r)).filter(|bytes| read(bytes).is_ok());
     orders.extend(valid.take(STACK_ORDERS));
-    writeln!(text, "| side | {} |\n|---|---|---|---|---|", ENTRIES.join(" | ")).unwrap();
+    writeln!(text, "| side | {} |\n|---|---|---|---|---|", ENTRIES[..4].join(" | ")).unwrap();
     let all: Vec<[usize; 4]> = SIDES.iter().map(|side| stacks(*side, &orders)).collect();
     for (side, used) in SIDES.iter().zip(&all) {
         let cells: Vec<String> = used.iter().map(usize::to_string).collect();
@@ -107,7 +107,7 @@ fn stack_table(text: &mut String, r: &mut Random) -> [usize; 4] {
 fn figures(kinds: &[Vec<Times>], used: [usize; 4]) -> Vec<Figure> {
     let [library, second] = &kinds[0][..] else { return Vec::new() };
     let plan = library.entries[0];
-    let (beside, part) = (plan / second.entries[0], library.entries[1] / plan);
+    let (beside, part, fallen) = (plan / second.entries[0], library.entries[1] / plan, library.entries[4] / plan);
     let (hard, spread) = (kinds[2][0].slowest / 1_000.0, kinds[1][0].slowest / 1_000.0);
     let mut list = vec![
         Figure {
@@ -120,8 +120,12 @@ fn figures(kinds: &[Vec<Times>], used: [usize; 4]) -> Vec<Figure> {
             measured: format!("hard sample {hard:.1}, slowest of the spread orders {spread:.1}"),
             met: hard.max(spread) <= 50.0,
         },
-        Figure { asked: "judging: at most a quarter of planning", measured: format!("{part:.3}"), met: part <= 0.25 },
-        Figure { asked: "judging, the aim: a tenth of planning", measured: format!("{part:.3}"), met: part <= 0.1 },
+        Figure {
+            asked: "judging a plan that stands: at most a quarter of planning",
+            measured: format!("{part:.3}, where it falls {fallen:.2}"),
+            met: part <= 0.25,
+        },
+        Figure { asked: "judging a plan that stands, the aim: a tenth of planning", measured: format!("{part:.3}"), met: part <= 0.1 },
         Figure {
             asked: "a point: at most 20 microseconds beyond judging the same bytes",
             measured: format!("{:.1} beyond, {:.1} in all", library.beyond, library.entries[2]),
@@ -162,7 +166,7 @@ orders. glpk counts in floats.
 ";
 
 const STACKS: &str = "
-The deepest use in bytes: the stack is painted, the call made, and the paint looked at; some 600 bytes of it are the caller's. Over STACKED \
+The deepest use in bytes: the stack is painted, the call made, and the paint looked at, less what a call takes that answers at once. Over STACKED \
 random and spread orders of 24 doses, the hard sample, and as many orders of every style; judging and drawing with the planner's plan and \
 with one that lacks its last record, for which the classes are computed.
 
@@ -182,7 +186,8 @@ fn page(count: usize) -> String {
     text += "\n## Stack\n";
     text += &STACKS.replace("STACKED", &STACK_ORDERS.to_string());
     let used = stack_table(&mut text, &mut r);
-    text += "\n## Asked and measured\n\nReading the bytes is taken as judging them: a point checks 2 to 10 first, by its definition.\n\n";
+    text += "\n## Asked and measured\n\nReading the bytes is taken as judging them: a point checks 2 to 10 first, by its definition. Where a plan falls, judging computes the \
+classes, to tell 9 from 10.\n\n";
     asked(&mut text, &figures(&last, used));
     text += "\n## Random cases\n\nThe last lines of `second compare`, kept in `second/long-run.txt`:\n\n";
     match std::fs::read_to_string(LONG_RUNS) {
