@@ -61,7 +61,7 @@ fn needs_of(grams: &[u64; 24], set: [bool; 24], p: u64) -> [u64; 24]
 }
 
 // The doses of the set that are dead: no chain leads out of them.
-fn dead_part(dead: [bool; 71], set: [bool; 24]) -> [bool; 24]
+fn dead_part(dead: [bool; 72], set: [bool; 24]) -> [bool; 24]
     ensures { λ r. ⌜ ((k : ℕ) → getD r k false ≡ (getD dead k false && getD set k false)) ⌝ }
 {
     let mut part = [false; 24];

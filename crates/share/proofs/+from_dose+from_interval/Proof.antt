@@ -56,7 +56,7 @@ abbrev from-interval-claims : ℕ → from-interval-lts.Claims
 from-interval-claims t = (interval-total-reads.Asked, interval-total-reads.Learnt, gap-reads.Asked, gap-reads.Learnt, smaller-reads.Asked, smaller-reads.Learnt, from-dose-below t, from-dose.Post)
 
 abbrev from-dose-Inv-loop : from-dose-lts.InvT-loop
-from-dose-Inv-loop x₀ rooms holds d want least marks₀ j₀ x marks j = (j ≤ 47) × (length x ≡ 1128) × (length marks ≡ 71) × Kept marks₀ x₀ marks x × (x ≡ x₀) × Exhausted rooms holds least x₀ marks₀ marks × ((i : ℕ) → i < j → cell x₀ d i + least ≤ cell rooms d i → Seen marks (24 + i))
+from-dose-Inv-loop x₀ rooms holds d want least marks₀ j₀ x marks j = (j ≤ 47) × (length x ≡ 1128) × (length marks ≡ 72) × Kept marks₀ x₀ marks x × (x ≡ x₀) × Exhausted rooms holds least x₀ marks₀ marks × ((i : ℕ) → i < j → cell x₀ d i + least ≤ cell rooms d i → Seen marks (24 + i))
 
 abbrev from-dose-μ-loop : from-dose-lts.MeasureT-loop
 from-dose-μ-loop x₀ rooms holds d want least marks₀ j₀ x marks j = 47 - j
@@ -218,7 +218,7 @@ from-dose-returns-4 t c =
     }
 
 abbrev from-interval-Inv-loop : from-interval-lts.InvT-loop
-from-interval-Inv-loop x₀ rooms holds j want least marks₀ most spare d₀ x marks d = (d ≤ 24) × (length x ≡ 1128) × (length marks ≡ 71) × Kept marks₀ x₀ marks x × (x ≡ x₀) × Exhausted rooms holds least x₀ marks₀ marks × ((e : ℕ) → e < d → least ≤ cell x₀ e j → Seen marks e)
+from-interval-Inv-loop x₀ rooms holds j want least marks₀ most spare d₀ x marks d = (d ≤ 24) × (length x ≡ 1128) × (length marks ≡ 72) × Kept marks₀ x₀ marks x × (x ≡ x₀) × Exhausted rooms holds least x₀ marks₀ marks × ((e : ℕ) → e < d → least ≤ cell x₀ e j → Seen marks e)
 
 abbrev from-interval-μ-loop : from-interval-lts.MeasureT-loop
 from-interval-μ-loop x₀ rooms holds j want least marks₀ most spare d₀ x marks d = 24 - d
