@@ -4,7 +4,7 @@ use Prim.Native.Nat.{ℕ, zero, suc, _+_, _-_, _*_, _<_, _≤_}
 use mathlib.Core.List.{List, [], _∷_}
 use mathlib.Core.Bool.{Bool, true, false}
 use mathlib.Core.Path.{_≡_, refl, sym, ap, _∙_}
-use mathlib.Core.Logic.{_≢_}
+use mathlib.Core.Logic.{_≢_, inl, inr}
 use lib.ListN.{length, getD, set, replicate}
 use lib.Seq.{getD-set-other}
 use lib.Dec.{eqb}
@@ -12,6 +12,7 @@ use borrow.Author.Tests.{eqb-true, eqb-false}
 use native.Mathlib.Numerals.{add-one}
 use native.Mathlib.Omega.{arith}
 use Rattle.model.specs.Sets.{sum}
+use Rattle.model.proofs.Fractions.{compare≤}
 use Rattle.model.proofs.Sums.{sum-congr, sum-up, sum-zero}
 use Rattle.share.proofs.Cells.{at-same, at-other-row, at-other-col, row-change, col-change, row-other, col-other, cell-row, cell-col}
 use Rattle.share.specs.Share.{unseenCount, cell, Seen, Unseen, got, given, Bounded, Kept, Exhausted, DoseUp, IntervalDown, DoseRaised, Dead, Within, Took, Raised}
@@ -26,6 +27,13 @@ known false f g = g refl
 
 pub alike : {A : Type 0} (m n : ℕ) → (m ≡ n → A) → (m ≢ n → A) → A
 alike m n f g = known (eqb m n) (λ e. f (eqb-true m n e)) (λ e. g (eqb-false m n e))
+
+-- what holds below j, at j, and from there up to r
+pub below-to : (P : ℕ → Type 0) (j r : ℕ) → ((i : ℕ) → i < j → P i) → P j → ((i : ℕ) → j + 1 ≤ i → i < r → P i) → (i : ℕ) → i < r → P i
+below-to P j r low here high i h = elim (compare≤ j i) [
+  | inl g ↦ alike i j (λ q. rw q here) (λ q. high i (omega arith) h)
+  | inr g ↦ low i g
+]
 
 -- ---- sums as a loop makes them
 

@@ -2,9 +2,9 @@
 // interval j at d * 47 + j; rooms are laid out the same way. A station is a dose, 0 to 23, or an interval, 24 to 70; a place more rounds the
 // marks up to whole words, which copies them faster.
 ghost use mathlib.Core.Path.{_≡_};
-ghost use Prim.Native.Nat.{ℕ, _-_, _<_, _≤_};
+ghost use Prim.Native.Nat.{ℕ, _+_, _-_, _<_, _≤_};
 ghost use lib.ListN.{length, getD};
-ghost use Rattle.share.specs.Share.{got, given, Bounded, Sized, FromDose, FromInterval, DoseRaised, Within, Took, Raised, Met};
+ghost use Rattle.share.specs.Share.{cell, got, given, Bounded, Sized, FromDose, FromInterval, DoseRaised, Within, Took, Raised, Met};
 
 // What a search pushed along a chain, and the stations seen on the way.
 struct Push {
@@ -53,6 +53,22 @@ fn dose_total(shares: &[u64], d: usize, need: u64) -> u64
     sum
 }
 
+// The next interval, or 47, where the share of dose d is below its room by `least`.
+fn next_way(shares: &[u64], rooms: &[u64], d: usize, from: usize, least: u64) -> usize
+    requires { ⌜ (length (now shares) ≡ 1128) × (length (now rooms) ≡ 1128) × (d < 24) × (from ≤ 47) ⌝ }
+    ensures { λ r. ⌜ (from ≤ r) × (r ≤ 47) × ((i : ℕ) → from ≤ i → i < r → cell (now (rooms .entry)) d i < cell (now (shares .entry)) d i + least) ⌝ }
+{
+    let mut j = from;
+    while j < 47 {
+        let at = d * 47 + j;
+        if least <= gap(rooms[at], shares[at]) {
+            return j;
+        }
+        j += 1;
+    }
+    j
+}
+
 // "a chain goes from a dose to an interval and from an interval back to a dose": for dose d, up to `want` more, "leaving a dose by an
 // interval where its share is below L × W". What is less than `least` does not count: thresholds that fall keep the chains few.
 fn from_dose(
@@ -81,6 +97,10 @@ fn from_dose(
         let room = gap(rooms[at], shares[at]);
         let w = smaller(want, room);
         if w < least {
+            j = next_way(shares, rooms, d, j + 1, least);
+            continue;
+        }
+        if marks[24 + j] {
             j += 1;
             continue;
         }
@@ -138,6 +158,10 @@ fn from_interval(
         let at = d * 47 + j;
         let w = smaller(want, shares[at]);
         if w < least {
+            d += 1;
+            continue;
+        }
+        if marks[d] {
             d += 1;
             continue;
         }
