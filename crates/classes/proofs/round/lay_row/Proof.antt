@@ -42,7 +42,7 @@ element-copy-out-on-2 c = search needs
 mul-on-2 : tie.Need-mul-on-2 Inv-loop μ-loop
 mul-on-2 c =
     let t : getD (c .before .before .before .before .args .lens .now) (c .before .before .before .loop .j) 0 * c .before .before .before .before .args .w ≤ 604800 * 24000000 = mul-le-mul (c .before .before .before .before .pre .1 (c .before .before .before .loop .j)) (c .before .before .before .before .pre .2) in
-    omega (arith, t)
+    omega (arith, c .before .before .before .before .pre .1 (c .before .before .before .loop .j))
 
 on-requires : tie.Need-on-requires Inv-loop μ-loop
 on-requires c κs = search needs
