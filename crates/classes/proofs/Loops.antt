@@ -3,10 +3,11 @@ use mathlib.Core.Bool.{Bool, true, false, _&&_}
 use mathlib.Core.List.{List, []}
 use mathlib.Core.Logic.{_≢_, inl, inr}
 use mathlib.Core.Path.{_≡_, refl, sym, ap, _∙_}
-use Prim.Native.Nat.{ℕ, zero, suc, _+_, _*_, _^_, _<_, _≤_}
+use Prim.Native.Nat.{ℕ, zero, suc, _+_, _*_, _/_, _%_, _^_, _<_, _≤_}
 use native.Mathlib.Nat.{pow-suc, pow-le-pow-right}
 use native.Mathlib.Numerals.{add-one}
 use native.Mathlib.Omega.{arith}
+use lib.Arith.{digits-div, digits-mod}
 use lib.ListN.{length, getD, set, replicate, List·getD-eq-default}
 use lib.Seq.{getD-set-same, getD-set-other}
 use Rattle.model.specs.Sets.{sum, on, weight, Doses}
@@ -68,6 +69,11 @@ all-below b n l e all k = elim (compare≤ n k) [
   | inl h ↦ let past : getD l k 0 ≡ 0 = List·getD-eq-default l 0 {n = k} (omega arith) in omega arith
   | inr h ↦ all k h
 ]
+
+-- a room by dose and interval, and by its place
+pub room-place : (active set : List Bool) (lens : List ℕ) (w k j : ℕ) → j < 47
+    → on (getD set k false) (on (getD active (k * 47 + j) false) (getD lens j 0 * w)) ≡ on (getD set ((k * 47 + j) / 47) false) (on (getD active (k * 47 + j) false) (getD lens ((k * 47 + j) % 47) 0 * w))
+room-place active set lens w k j h = rw (digits-div k h, digits-mod k h)
 
 and-false : (b : Bool) → (b && false) ≡ false
 and-false true = refl

@@ -3,9 +3,8 @@
 use mathlib.Core.Bool.{Bool, true, false, _&&_}
 use mathlib.Core.List.{List}
 use mathlib.Core.Path.{_≡_, refl, sym, ap, _∙_, subst, fun-ext}
-use Prim.Native.Nat.{ℕ, _+_, _*_, _%_, _<_}
+use Prim.Native.Nat.{ℕ, _+_, _*_, _<_}
 use native.Mathlib.Omega.{arith}
-use lib.Arith.{digits-div, digits-mod}
 use lib.ListN.{getD}
 use Rattle.model.specs.Sets.{sum, on, weight, Doses, Nonempty}
 use Rattle.model.specs.Classes.{Setting, W, P, openFans}
@@ -16,6 +15,7 @@ use Rattle.share.specs.Share.{cell, Raised, Met}
 use Rattle.share.proofs.Bridge as bridge
 use Rattle.classes.specs.Sheet.{setOf, activeOf, rowOf, settingFrom, Sheet, Opens, Rooms, Holds, Needs}
 use Rattle.classes.specs.Round.{Candidate, Measured, Tried}
+use Rattle.classes.proofs.Loops.{room-place}
 
 on-on : (a b : Bool) (u : ℕ) → on a (on b u) ≡ on (a && b) u
 on-on true b u = refl
@@ -50,8 +50,7 @@ module _ (n J : ℕ) (active : List Bool) (lens grams free : List ℕ) (set : Li
     room-at : (k j : ℕ) → k < 24 → j < 47 → cell rooms k j ≡ on (A k && activeOf active k j) (getD lens j 0 * w)
     room-at k j hk hj =
         hr (k * 47 + j) (omega arith)
-        ∙ ap (λ (i : ℕ). on (getD set i false) (on (activeOf active k j) (getD lens ((k * 47 + j) % 47) 0 * w))) (digits-div k hj)
-        ∙ ap (λ (i : ℕ). on (A k) (on (activeOf active k j) (getD lens i 0 * w))) (digits-mod k hj)
+        ∙ sym (room-place active set lens w k j hj)
         ∙ on-on (A k) (activeOf active k j) (getD lens j 0 * w)
 
     no-room : (k j : ℕ) → k < 24 → j < 47 → activeOf active k j ≡ false → cell rooms k j ≡ 0

@@ -58,8 +58,12 @@ countIn active n set j = weight n (λ k. on (activeOf active k j) 1) (setOf set)
 abbrev pub Opens : List Bool → ℕ → List Bool → List ℕ → List ℕ → Type 0
 Opens active n set free open-fans = (j : ℕ) → j < 47 → getD open-fans j 0 ≡ min (countIn active n set j) (getD free j 0)
 
+-- the first n rooms, and all
+abbrev pub RoomsTo : List Bool → List ℕ → List Bool → ℕ → ℕ → List ℕ → Type 0
+RoomsTo active lens set w n rooms = (i : ℕ) → i < n → getD rooms i 0 ≡ on (getD set (i / 47) false) (on (getD active i false) (getD lens (i % 47) 0 * w))
+
 abbrev pub Rooms : List Bool → List ℕ → List Bool → ℕ → List ℕ → Type 0
-Rooms active lens set w rooms = (i : ℕ) → i < 1128 → getD rooms i 0 ≡ on (getD set (i / 47) false) (on (getD active i false) (getD lens (i % 47) 0 * w))
+Rooms active lens set w rooms = RoomsTo active lens set w 1128 rooms
 
 abbrev pub Holds : List ℕ → List ℕ → ℕ → List ℕ → Type 0
 Holds lens open-fans w holds = (j : ℕ) → j < 47 → getD holds j 0 ≡ getD open-fans j 0 * (getD lens j 0 * w)

@@ -6,10 +6,10 @@ use crate::measure::on;
 use crate::measure::open_fans;
 ghost use mathlib.Core.Path.{_≡_};
 ghost use mathlib.Core.Bool.{false, _&&_};
-ghost use Prim.Native.Nat.{ℕ, _≤_};
+ghost use Prim.Native.Nat.{ℕ, _+_, _*_, _<_, _≤_};
 ghost use lib.ListN.{length, getD};
 ghost use Rattle.model.specs.Sets.{Nonempty};
-ghost use Rattle.classes.specs.Sheet.{setOf, rowOf, Below, settingFrom, Sheet, Rooms, Holds, Needs};
+ghost use Rattle.classes.specs.Sheet.{setOf, rowOf, Below, settingFrom, Sheet, RoomsTo, Rooms, Holds, Needs};
 ghost use Rattle.classes.specs.Round.{Measured, Tried, Chosen};
 
 fn both(a: bool, b: bool) -> bool
@@ -18,18 +18,42 @@ fn both(a: bool, b: bool) -> bool
     if a { b } else { false }
 }
 
-// "Its share in an interval of length L is at most L × W units, only where it is active."
-fn rooms_of(active: &[bool; 1128], lens: &[u64; 47], set: [bool; 24], w: u64) -> [u64; 1128]
-    requires { ⌜ Below 604800 (now lens) × (w ≤ 24000000) ⌝ }
-    ensures { λ r. ⌜ Rooms (now (active .entry)) (now (lens .entry)) set w r ⌝ }
+// "Its share in an interval of length L is at most L × W units, only where it is active": the rooms of dose k.
+fn lay_row(
+    rooms: &mut [u64; 1128],
+    active: &[bool; 1128],
+    lens: &[u64; 47],
+    set: [bool; 24],
+    k: usize,
+    w: u64,
+)
+    requires { ⌜ (length (now rooms) ≡ 1128) × Below 604800 (now lens) × (w ≤ 24000000) × (k < 24) × RoomsTo (now active) (now lens) set w (k * 47) (now rooms) ⌝ }
+    ensures { λ _. ⌜ (length (now (rooms .exit)) ≡ 1128) × RoomsTo (now (active .entry)) (now (lens .entry)) set w (k * 47 + 47) (now (rooms .exit)) ⌝ }
 {
-    let mut rooms = [0u64; 1128];
-    let mut i = 0;
-    while i < 1128 {
-        rooms[i] = on(set[i / 47], on(active[i], lens[i % 47] * w));
-        i += 1;
+    let mut j = 0;
+    while j < 47 {
+        let at = k * 47 + j;
+        rooms[at] = on(set[k], on(active[at], lens[j] * w));
+        j += 1;
     }
-    rooms
+}
+
+// The rooms of all doses, in a lent array: none for doses outside the set.
+fn lay_rooms(
+    rooms: &mut [u64; 1128],
+    active: &[bool; 1128],
+    lens: &[u64; 47],
+    set: [bool; 24],
+    w: u64,
+)
+    requires { ⌜ (length (now rooms) ≡ 1128) × Below 604800 (now lens) × (w ≤ 24000000) ⌝ }
+    ensures { λ _. ⌜ (length (now (rooms .exit)) ≡ 1128) × Rooms (now (active .entry)) (now (lens .entry)) set w (now (rooms .exit)) ⌝ }
+{
+    let mut k = 0;
+    while k < 24 {
+        lay_row(rooms, active, lens, set, k, w);
+        k += 1;
+    }
 }
 
 // "its reserved fans × L × W".
@@ -61,7 +85,7 @@ fn needs_of(grams: &[u64; 24], set: [bool; 24], p: u64) -> [u64; 24]
 }
 
 // The doses of the set that are dead: no chain leads out of them.
-fn dead_part(dead: [bool; 71], set: [bool; 24]) -> [bool; 24]
+fn dead_part(dead: [bool; 72], set: [bool; 24]) -> [bool; 24]
     ensures { λ r. ⌜ ((k : ℕ) → getD r k false ≡ (getD dead k false && getD set k false)) ⌝ }
 {
     let mut part = [false; 24];
@@ -100,7 +124,8 @@ fn try_candidate(
     let w = grams_of(grams, doses, set);
     let reserved = open_fans(active, doses, set, free);
     let p = fan_time(lens, intervals, reserved);
-    let rooms = rooms_of(active, lens, set, w);
+    let mut rooms = [0u64; 1128];
+    lay_rooms(&mut rooms, active, lens, set, w);
     let holds = holds_of(lens, reserved, w);
     let needs = needs_of(grams, set, p);
     let dead = share::find_shares(x, &rooms, &holds, &needs, sequence);

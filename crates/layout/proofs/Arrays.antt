@@ -6,8 +6,9 @@ use native.Mathlib.Nat.{mul-le-mul-right}
 use native.Mathlib.Numerals.{add-one}
 use native.Mathlib.Omega.{arith}
 use borrow.Author.Tests.{eq-eqb, ne-eqb}
+use lib.Dec.{eqb}
 use lib.ListN.{length, getD}
-use Rattle.model.specs.Sets.{sum}
+use Rattle.model.specs.Sets.{sum, on}
 use Rattle.model.specs.Lists.{gather}
 use Rattle.model.specs.Plans.{Slot, slotRecord}
 use Rattle.model.specs.Layout.{Lane, intervalSlots, lane, laneSlots, tableSlots}
@@ -17,14 +18,16 @@ use Rattle.layout.specs.Held.{fansAt, laneAt, lenAt, shareAt, tableFrom}
 use Rattle.layout.specs.Laying.{Filled, Rooms, Wrote}
 use Rattle.layout.proofs.Runs.{gather-fits, gather-more, gather-none}
 
-module _ (t : Tables) (x : List ℕ) (i k j : ℕ) where
-  pub share-mine : getD (t .«class_of») k 0 ≡ i → getD x (k * 47 + j) 0 ≡ shareAt t x i k j
-  unfolding shareAt
-  share-mine e = rw (eq-eqb (getD (t .«class_of») k 0) i e)
+-- the share of a dose of class c in class i
+pub share-mine : (c i v : ℕ) → c ≡ i → v ≡ on (eqb c i) v
+share-mine c i v e = rw (eq-eqb c i e)
 
-  pub share-other : (getD (t .«class_of») k 0 ≡ i → ⊥) → 0 ≡ shareAt t x i k j
-  unfolding shareAt
-  share-other e = rw (ne-eqb (getD (t .«class_of») k 0) i e)
+pub share-other : (c i v : ℕ) → (c ≡ i → ⊥) → 0 ≡ on (eqb c i) v
+share-other c i v e = rw (ne-eqb c i e)
+
+pub share-is : (t : Tables) (x : List ℕ) (i k j : ℕ) {s : ℕ} → s ≡ on (eqb (getD (t .«class_of») k 0) i) (getD x (k * 47 + j) 0) → s ≡ shareAt t x i k j
+unfolding shareAt
+share-is t x i k j e = e
 
 module _ (t : Tables) (x : List ℕ) (m : List (List ℕ)) where
   -- the slots of class i in interval j

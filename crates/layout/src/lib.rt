@@ -2,9 +2,11 @@
 ghost use mathlib.Core.Path.{_≡_};
 ghost use mathlib.Core.List.{_++_, map};
 ghost use Prim.Native.Nat.{_+_, _*_, _<_, _≤_};
+ghost use lib.Dec.{eqb};
 ghost use lib.ListN.{length, getD};
 ghost use Rattle.field.specs.Written.{written};
 ghost use Rattle.model.specs.Records.{numberBytes};
+ghost use Rattle.model.specs.Sets.{on};
 ghost use Rattle.model.specs.Plans.{classRecord, slotRecord, planRecordBytes};
 ghost use Rattle.model.specs.Layout.{cut, pieceSlot, laneSlots, intervalSlots, tableSlots};
 ghost use Rattle.layout.specs.Held.{asClass, asSlot, asLane, shareAt, laneAt, tableFrom};
@@ -136,11 +138,11 @@ fn lay_share(b: &mut [u8], r: usize, l: Lane, dose: u32, a: u64, x: u64) -> usiz
 }
 
 // The share of dose k in class i and interval j: none where the dose is of another class.
-fn share_of(t: Tables, shares: &[u64], i: usize, k: usize, j: usize) -> u64
+fn share_of(class: u8, shares: &[u64], i: usize, k: usize, j: usize) -> u64
     requires { ⌜ (k < 24) × (j < 47) × (length (now shares) ≡ 1128) ⌝ }
-    ensures { λ r. ⌜ r ≡ shareAt t (now (shares .entry)) i k j ⌝ }
+    ensures { λ r. ⌜ r ≡ on (eqb class i) (getD (now (shares .entry)) (k * 47 + j) 0) ⌝ }
 {
-    if t.class_of[k] as usize == i {
+    if class as usize == i {
         return shares[k * 47 + j];
     }
     0
@@ -163,7 +165,7 @@ fn lay_class(
     let mut a: u64 = 0;
     let mut k = 0;
     while k < t.doses {
-        let share = share_of(t, shares, i, k, j);
+        let share = share_of(t.class_of[k], shares, i, k, j);
         at = lay_share(b, at, l, k as u32, a, share);
         a += share;
         k += 1;

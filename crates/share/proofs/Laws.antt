@@ -4,7 +4,7 @@ use Prim.Native.Nat.{ℕ, zero, suc, _+_, _-_, _*_, _<_, _≤_}
 use mathlib.Core.List.{List, [], _∷_}
 use mathlib.Core.Bool.{Bool, true, false}
 use mathlib.Core.Path.{_≡_, refl, sym, ap, _∙_}
-use mathlib.Core.Logic.{_≢_}
+use mathlib.Core.Logic.{_≢_, inl, inr}
 use lib.ListN.{length, getD, set, replicate}
 use lib.Seq.{getD-set-other}
 use lib.Dec.{eqb}
@@ -12,9 +12,10 @@ use borrow.Author.Tests.{eqb-true, eqb-false}
 use native.Mathlib.Numerals.{add-one}
 use native.Mathlib.Omega.{arith}
 use Rattle.model.specs.Sets.{sum}
+use Rattle.model.proofs.Fractions.{compare≤}
 use Rattle.model.proofs.Sums.{sum-congr, sum-up, sum-zero}
 use Rattle.share.proofs.Cells.{at-same, at-other-row, at-other-col, row-change, col-change, row-other, col-other, cell-row, cell-col}
-use Rattle.share.specs.Share.{unseenCount, cell, Seen, Unseen, got, given, Bounded, Kept, Exhausted, DoseUp, IntervalDown, DoseRaised, Dead, Within, Raised}
+use Rattle.share.specs.Share.{unseenCount, cell, Seen, Unseen, got, given, Bounded, Kept, Exhausted, DoseUp, IntervalDown, DoseRaised, Dead, Within, Took, Raised}
 
 pub not-both : {b : Bool} → b ≡ true → b ≡ false → ⊥
 not-both {b} p q = let z : true ≡ false = sym p ∙ q in let y : _≡_ {A = ℕ} 0 1 = cc in omega arith
@@ -26,6 +27,13 @@ known false f g = g refl
 
 pub alike : {A : Type 0} (m n : ℕ) → (m ≡ n → A) → (m ≢ n → A) → A
 alike m n f g = known (eqb m n) (λ e. f (eqb-true m n e)) (λ e. g (eqb-false m n e))
+
+-- what holds below j, at j, and from there up to r
+pub below-to : (P : ℕ → Type 0) (j r : ℕ) → ((i : ℕ) → i < j → P i) → P j → ((i : ℕ) → j + 1 ≤ i → i < r → P i) → (i : ℕ) → i < r → P i
+below-to P j r low here high i h = elim (compare≤ j i) [
+  | inl g ↦ alike i j (λ q. rw q here) (λ q. high i (omega arith) h)
+  | inr g ↦ low i g
+]
 
 -- ---- sums as a loop makes them
 
@@ -291,13 +299,21 @@ within-none {rooms} {holds} {needs} {x} z = record {
   needed = λ k hk. omega (arith, sum-congr 47 {f = λ j. cell x k j} {g = λ j. 0} (λ j hj. z (k * 47 + j) (omega arith)), sum-zero 47);
 }
 
--- dose d gets a more in interval j
-pub within-more : {rooms holds needs x : List ℕ} (d j a : ℕ) → d < 24 → j < 47 → length x ≡ 1128 → Within rooms holds needs x
-    → a ≤ getD needs d 0 - got x d → a ≤ cell rooms d j - cell x d j → a ≤ getD holds j 0 - given x j → Within rooms holds needs (set x (d * 47 + j) (cell x d j + a))
-within-more {rooms} {holds} {needs} {x} d j a hd hj sized g miss room spare =
-    let down : IntervalDown rooms holds j a x x = interval-still j a (g .bounded) refl (omega (arith, g .bounded .held j hj)) in
-    let up : DoseUp rooms holds d a x (set x (d * 47 + j) (cell x d j + a)) = dose-write d j a hd hj sized down (omega (arith, g .bounded .roomy d j hd hj)) in
-    record {
-      bounded = up .bounded;
-      needed = λ k hk. alike k d (λ q. rw q (omega (arith, up .own, g .needed d hd))) (λ q. omega (arith, up .others k hk q, g .needed k hk));
-    }
+-- dose d takes nothing, or a more in interval j
+pub took-none : {rooms holds x : List ℕ} (d miss : ℕ) → Bounded rooms holds x → Took rooms holds d miss x miss x
+took-none d miss f = record { bounded = f; own = refl; others = λ k h q. refl }
+
+pub took-more : {rooms holds x : List ℕ} (d j miss a : ℕ) → d < 24 → j < 47 → length x ≡ 1128 → Bounded rooms holds x
+    → a ≤ miss → a ≤ cell rooms d j - cell x d j → a ≤ getD holds j 0 - given x j → Took rooms holds d miss x (miss - a) (set x (d * 47 + j) (cell x d j + a))
+took-more {rooms} {holds} {x} d j miss a hd hj sized f h room spare =
+    let down : IntervalDown rooms holds j a x x = interval-still j a f refl (omega (arith, f .held j hj)) in
+    let up : DoseUp rooms holds d a x (set x (d * 47 + j) (cell x d j + a)) = dose-write d j a hd hj sized down (omega (arith, f .roomy d j hd hj)) in
+    record { bounded = up .bounded; own = omega (arith, up .own); others = up .others }
+
+-- shares stay within all bounds where a dose takes no more than it misses
+pub within-took : {rooms holds needs x y : List ℕ} (d miss rest : ℕ) → Within rooms holds needs x → got x d + miss ≡ getD needs d 0
+    → Took rooms holds d miss x rest y → Within rooms holds needs y
+within-took d miss rest g e t = record {
+  bounded = t .bounded;
+  needed = λ k hk. alike k d (λ q. rw q (omega (arith, t .own, e))) (λ q. omega (arith, t .others k hk q, g .needed k hk));
+}

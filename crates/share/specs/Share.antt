@@ -50,6 +50,12 @@ pub record Within (rooms holds needs x : List ℕ) : Type 0 where
   pub bounded : Bounded rooms holds x
   pub needed : (k : ℕ) → k < 24 → got x k ≤ getD needs k 0
 
+-- dose d took some of what it missed: `miss` before, `rest` after; the other doses have what they had
+pub record Took (rooms holds : List ℕ) (d miss : ℕ) (x : List ℕ) (rest : ℕ) (y : List ℕ) : Type 0 where
+  pub bounded : Bounded rooms holds y
+  pub own : got y d + rest ≡ got x d + miss
+  pub others : (k : ℕ) → k < 24 → k ≢ d → got y k ≡ got x k
+
 -- a search leaves the shares of stations that were seen before it alone: s and x before it, t and y after
 pub record Kept (s : List Bool) (x : List ℕ) (t : List Bool) (y : List ℕ) : Type 0 where
   pub more : (k : ℕ) → Seen s k → Seen t k

@@ -1,14 +1,15 @@
 // Shares of doses in intervals, raised along chains (document 01, "From classes to slots"). One array holds the share of dose d in
-// interval j at d * 47 + j; rooms are laid out the same way. A station is a dose, 0 to 23, or an interval, 24 to 70.
+// interval j at d * 47 + j; rooms are laid out the same way. A station is a dose, 0 to 23, or an interval, 24 to 70; a place more rounds the
+// marks up to whole words, which copies them faster.
 ghost use mathlib.Core.Path.{_≡_};
-ghost use Prim.Native.Nat.{ℕ, _-_, _<_, _≤_};
+ghost use Prim.Native.Nat.{ℕ, _+_, _-_, _<_, _≤_};
 ghost use lib.ListN.{length, getD};
-ghost use Rattle.share.specs.Share.{got, given, Bounded, Sized, FromDose, FromInterval, DoseRaised, Within, Raised, Met};
+ghost use Rattle.share.specs.Share.{cell, got, given, Bounded, Sized, FromDose, FromInterval, DoseRaised, Within, Took, Raised, Met};
 
 // What a search pushed along a chain, and the stations seen on the way.
 struct Push {
     amount: u64,
-    seen: [bool; 71],
+    seen: [bool; 72],
 }
 
 // a - b, or 0.
@@ -52,13 +53,29 @@ fn dose_total(shares: &[u64], d: usize, need: u64) -> u64
     sum
 }
 
+// The next interval, or 47, where the share of dose d is below its room by `least`.
+fn next_way(shares: &[u64], rooms: &[u64], d: usize, from: usize, least: u64) -> usize
+    requires { ⌜ (length (now shares) ≡ 1128) × (length (now rooms) ≡ 1128) × (d < 24) × (from ≤ 47) ⌝ }
+    ensures { λ r. ⌜ (from ≤ r) × (r ≤ 47) × ((i : ℕ) → from ≤ i → i < r → cell (now (rooms .entry)) d i < cell (now (shares .entry)) d i + least) ⌝ }
+{
+    let mut j = from;
+    while j < 47 {
+        let at = d * 47 + j;
+        if least <= gap(rooms[at], shares[at]) {
+            return j;
+        }
+        j += 1;
+    }
+    j
+}
+
 // "a chain goes from a dose to an interval and from an interval back to a dose": for dose d, up to `want` more, "leaving a dose by an
 // interval where its share is below L × W". What is less than `least` does not count: thresholds that fall keep the chains few.
 fn from_dose(
     shares: &mut [u64],
     rooms: &[u64],
     holds: &[u64],
-    seen: [bool; 71],
+    seen: [bool; 72],
     d: usize,
     want: u64,
     least: u64,
@@ -80,6 +97,10 @@ fn from_dose(
         let room = gap(rooms[at], shares[at]);
         let w = smaller(want, room);
         if w < least {
+            j = next_way(shares, rooms, d, j + 1, least);
+            continue;
+        }
+        if marks[24 + j] {
             j += 1;
             continue;
         }
@@ -108,7 +129,7 @@ fn from_interval(
     shares: &mut [u64],
     rooms: &[u64],
     holds: &[u64],
-    seen: [bool; 71],
+    seen: [bool; 72],
     j: usize,
     want: u64,
     least: u64,
@@ -140,6 +161,10 @@ fn from_interval(
             d += 1;
             continue;
         }
+        if marks[d] {
+            d += 1;
+            continue;
+        }
         let p = from_dose(shares, rooms, holds, marks, d, w, least);
         let m = p.seen;
         marks = m;
@@ -164,11 +189,11 @@ fn raise_dose(
     shares: &mut [u64],
     rooms: &[u64],
     holds: &[u64],
-    dead: [bool; 71],
+    dead: [bool; 72],
     d: usize,
     need: u64,
     least: u64,
-) -> [bool; 71]
+) -> [bool; 72]
     requires { ⌜ Sized (now shares) (now rooms) (now holds) × Bounded (now rooms) (now holds) (now shares) × (d < 24) × (1 ≤ least) × (got (now shares) d ≤ need) ⌝ }
     ensures { λ r. ⌜ DoseRaised (now (rooms .entry)) (now (holds .entry)) least d need dead (now (shares .entry)) r (now (shares .exit)) ⌝ }
 {
@@ -177,6 +202,9 @@ fn raise_dose(
     }
     loop {
         let miss = need - dose_total(shares, d, need);
+        if miss < least {
+            return dead;
+        }
         let p = from_dose(shares, rooms, holds, dead, d, miss, least);
         let a = p.amount;
         if a == 0 {
@@ -192,11 +220,11 @@ fn raise_pass(
     holds: &[u64],
     needs: &[u64],
     least: u64,
-) -> [bool; 71]
+) -> [bool; 72]
     requires { ⌜ Sized (now shares) (now rooms) (now holds) × Within (now rooms) (now holds) (now needs) (now shares) × (length (now needs) ≡ 24) × (1 ≤ least) ⌝ }
     ensures { λ r. ⌜ Raised (now (rooms .entry)) (now (holds .entry)) (now (needs .entry)) least 24 r (now (shares .exit)) ⌝ }
 {
-    let mut dead = [false; 71];
+    let mut dead = [false; 72];
     let mut d = 0;
     while d < 24 {
         let need = needs[d];
@@ -209,7 +237,7 @@ fn raise_pass(
 
 // Passes with thresholds that fall to 1. The last is document 01's search: "no chain leads from a dose short of its need to an interval with
 // spare reserved time".
-fn raise(shares: &mut [u64], rooms: &[u64], holds: &[u64], needs: &[u64], top: u64) -> [bool; 71]
+fn raise(shares: &mut [u64], rooms: &[u64], holds: &[u64], needs: &[u64], top: u64) -> [bool; 72]
     requires { ⌜ Sized (now shares) (now rooms) (now holds) × Within (now rooms) (now holds) (now needs) (now shares) × (length (now needs) ≡ 24) × (1 ≤ top) ⌝ }
     ensures { λ r. ⌜ Raised (now (rooms .entry)) (now (holds .entry)) (now (needs .entry)) 1 24 r (now (shares .exit)) ⌝ }
 {
@@ -223,22 +251,28 @@ fn raise(shares: &mut [u64], rooms: &[u64], holds: &[u64], needs: &[u64], top: u
     dead
 }
 
-// Dose d takes in interval j what it needs, has room for and finds.
-fn first_share(shares: &mut [u64], rooms: &[u64], holds: &[u64], needs: &[u64], d: usize, j: usize)
-    requires { ⌜ Sized (now shares) (now rooms) (now holds) × Within (now rooms) (now holds) (now needs) (now shares) × (length (now needs) ≡ 24) × (d < 24) × (j < 47) ⌝ }
-    ensures { λ r. ⌜ Within (now (rooms .entry)) (now (holds .entry)) (now (needs .entry)) (now (shares .exit)) ⌝ }
+// Dose d, which misses so much, takes in interval j what it has room for and finds. Gives back what it misses now.
+fn first_share(
+    shares: &mut [u64],
+    rooms: &[u64],
+    holds: &[u64],
+    d: usize,
+    j: usize,
+    miss: u64,
+) -> u64
+    requires { ⌜ Sized (now shares) (now rooms) (now holds) × Bounded (now rooms) (now holds) (now shares) × (d < 24) × (j < 47) ⌝ }
+    ensures { λ r. ⌜ Took (now (rooms .entry)) (now (holds .entry)) d miss (now (shares .entry)) r (now (shares .exit)) ⌝ }
 {
     let at = d * 47 + j;
     if rooms[at] == 0 {
-        return;
+        return miss;
     }
-    let need = needs[d];
-    let miss = need - dose_total(shares, d, need);
     let most = holds[j];
     let spare = gap(most, interval_total(shares, j, most));
     let room = gap(rooms[at], shares[at]);
     let a = smaller(miss, smaller(room, spare));
     shares[at] = shares[at] + a;
+    miss - a
 }
 
 // Dose d takes what it finds, earliest intervals first; a number past the doses takes nothing.
@@ -249,9 +283,14 @@ fn first_shares(shares: &mut [u64], rooms: &[u64], holds: &[u64], needs: &[u64],
     if 24 <= d {
         return;
     }
+    let need = needs[d];
+    let mut miss = need - dose_total(shares, d, need);
     let mut j = 0;
     while j < 47 {
-        first_share(shares, rooms, holds, needs, d, j);
+        if miss == 0 {
+            return;
+        }
+        miss = first_share(shares, rooms, holds, d, j, miss);
         j += 1;
     }
 }
@@ -274,15 +313,16 @@ fn larger(a: u64, b: u64) -> u64
     if a < b { b } else { a }
 }
 
-// The largest need, or 1.
-fn largest_need(needs: &[u64]) -> u64
-    requires { ⌜ length (now needs) ≡ 24 ⌝ }
+// The most that a dose is short of, or 1: above it no pass would push anything.
+fn largest_shortage(shares: &[u64], needs: &[u64]) -> u64
+    requires { ⌜ (length (now shares) ≡ 1128) × (length (now needs) ≡ 24) × ((k : ℕ) → k < 24 → got (now shares) k ≤ getD (now needs) k 0) ⌝ }
     ensures { λ r. ⌜ 1 ≤ r ⌝ }
 {
     let mut most: u64 = 1;
     let mut k = 0;
     while k < 24 {
-        most = larger(most, needs[k]);
+        let need = needs[k];
+        most = larger(most, gap(need, dose_total(shares, k, need)));
         k += 1;
     }
     most
@@ -295,7 +335,7 @@ pub fn find_shares(
     holds: &[u64],
     needs: &[u64],
     sequence: [usize; 24],
-) -> [bool; 71]
+) -> [bool; 72]
     requires { ⌜ Sized (now shares) (now rooms) (now holds) × (length (now needs) ≡ 24) ⌝ }
     ensures { λ r. ⌜ Raised (now (rooms .entry)) (now (holds .entry)) (now (needs .entry)) 1 24 r (now (shares .exit)) ⌝ }
 {
@@ -306,7 +346,7 @@ pub fn find_shares(
         first_shares(shares, rooms, holds, needs, d);
         i += 1;
     }
-    let top = largest_need(needs);
+    let top = largest_shortage(shares, needs);
     raise(shares, rooms, holds, needs, top)
 }
 

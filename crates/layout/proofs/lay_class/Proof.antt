@@ -2,19 +2,24 @@ use mathlib.Core.Path.{_≡_, refl}
 use Prim.Native.Nat.{_≤_, _-_}
 use native.Mathlib.Omega.{arith}
 use lib.ListN.{length}
+use borrow.Author.Needs.{needs}
 use Rattle.layout.specs.Held.{asLane, shareAt}
+use Rattle.layout.proofs.Arrays.{share-is}
 use Rattle.layout.proofs.Shares.{Kept, kept-none, kept-more, room-at, sum-at, laid-all}
 use Rattle.layout.proofs.lay_class.Statement.{statement}
 use Rattle.layout.proofs.lay_class.Tie as tie
 
 abbrev Inv-loop : tie.InvT-loop
-Inv-loop b₀ r l t shares i j at₀ a₀ k₀ b at a k = (k ≤ t .doses) × (length b ≡ length b₀) × Kept (asLane l) (λ d. shareAt t shares i d j) b₀ r b at a k
+Inv-loop b₀ r l shares i j t at₀ a₀ k₀ b at a k = (k ≤ t .doses) × (length b ≡ length b₀) × Kept (asLane l) (λ d. shareAt t shares i d j) b₀ r b at a k
 
 abbrev μ-loop : tie.MeasureT-loop
-μ-loop b₀ r l t shares i j at₀ a₀ k₀ b at a k = t .doses - k
+μ-loop b₀ r l shares i j t at₀ a₀ k₀ b at a k = t .doses - k
 
 loop-holds : tie.Need-loop-holds Inv-loop μ-loop
 loop-holds c = (omega arith, refl, kept-none _ _ _ _)
+
+element-copy-out-share-of : tie.Need-element-copy-out-share-of Inv-loop μ-loop
+element-copy-out-share-of c = omega arith
 
 share-of-requires : tie.Need-share-of-requires Inv-loop μ-loop
 share-of-requires c κs = omega arith
@@ -23,10 +28,10 @@ cast-lay-share : tie.Need-cast-lay-share Inv-loop μ-loop
 cast-lay-share c = omega arith
 
 lay-share-requires : tie.Need-lay-share-requires Inv-loop μ-loop
-lay-share-requires c κs = room-at _ _ (c .before .before .before .before .before .before .before .pre .0) (c .before .before .before .before .loop .inv .2) (omega arith) (omega arith) (c .before .share-of .ensures)
+lay-share-requires c κs = let A = c .before .before .before .before .before .before .before .args in room-at _ _ (c .before .before .before .before .before .before .before .pre .0) (c .before .before .before .before .loop .inv .2) (omega arith) (omega arith) (share-is (A .t4) (A .shares .now) (A .i) (c .before .before .before .before .loop .k) (A .j) (c .before .share-of .ensures))
 
 add-a : tie.Need-add-a Inv-loop μ-loop
-add-a c = omega (arith, sum-at _ _ (c .before .before .before .before .before .before .before .before .before .before .pre .0) (c .before .before .before .before .before .before .before .loop .inv .2) (omega arith) (c .before .before .before .before .share-of .ensures))
+add-a c = let A = c .before .before .before .before .before .before .before .before .before .before .args in omega (arith, sum-at _ _ (c .before .before .before .before .before .before .before .before .before .before .pre .0) (c .before .before .before .before .before .before .before .loop .inv .2) (omega arith) (share-is (A .t4) (A .shares .now) (A .i) (c .before .before .before .before .before .before .before .loop .k) (A .j) (c .before .before .before .before .share-of .ensures)))
 
 add-k : tie.Need-add-k Inv-loop μ-loop
 add-k c = omega arith
@@ -35,13 +40,13 @@ loop-less : tie.Need-loop-less Inv-loop μ-loop
 loop-less c = omega arith
 
 loop-again : tie.Need-loop-again Inv-loop μ-loop
-loop-again c = (omega arith, omega arith, kept-more _ _ (c .before .before .before .before .before .before .before .loop .inv .2) (c .before .before .before .before .share-of .ensures) (c .before .before .lay-share .ensures))
+loop-again c = let A = c .before .before .before .before .before .before .before .before .before .before .args in (omega arith, omega arith, kept-more _ _ (c .before .before .before .before .before .before .before .loop .inv .2) (share-is (A .t4) (A .shares .now) (A .i) (c .before .before .before .before .before .before .before .loop .k) (A .j) (c .before .before .before .before .share-of .ensures)) (c .before .before .lay-share .ensures))
 
 same-length : tie.Need-same-length Inv-loop μ-loop
-same-length c = c .before .before .loop .inv .1
+same-length c = c .before .loop .inv .1
 
 returns : tie.Need-returns Inv-loop μ-loop
-returns c = laid-all _ _ (c .before .before .before .before .before .pre .0) (c .before .before .loop .inv .2) (omega arith)
+returns c = laid-all _ _ (c .before .before .before .before .pre .0) (c .before .loop .inv .2) (omega arith)
 
 pub lay-class-spec : {M : Type 1} → statement M
 lay-class-spec =
@@ -50,6 +55,7 @@ lay-class-spec =
     Inv-loop
     μ-loop
     loop-holds
+    element-copy-out-share-of
     share-of-requires
     cast-lay-share
     lay-share-requires

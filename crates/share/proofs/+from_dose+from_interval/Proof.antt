@@ -9,7 +9,7 @@ use native.Mathlib.Omega.{arith}
 use borrow.Author.Needs.{needs}
 use borrow.Author.Count.{below-more}
 use Rattle.share.specs.Share.{unseenCount, Seen, cell, given, Kept, Exhausted}
-use Rattle.share.proofs.Laws.{not-both, marked, falls-to, kept-refl, kept-trans, kept-mark, kept-write, exhausted-none, exhausted-trans, exhausted-dose, exhausted-interval, bounded-same, dose-still, interval-still, dose-write, interval-write, interval-none, down-from, up-from, sum-fits, spare-fits, no-spare}
+use Rattle.share.proofs.Laws.{not-both, below-to, marked, falls-to, kept-refl, kept-trans, kept-mark, kept-write, exhausted-none, exhausted-trans, exhausted-dose, exhausted-interval, bounded-same, dose-still, interval-still, dose-write, interval-write, interval-none, down-from, up-from, sum-fits, spare-fits, no-spare}
 use borrow.Fn.Kinds.{In}
 use borrow.Fn.PlainCycle.{Measures, is, falls, and}
 use Rattle.share.proofs.from_dose.Reads as from-dose
@@ -21,6 +21,7 @@ use Rattle.share.proofs.+from_dose+from_interval.Lts-from_interval as f
 use Rattle.share.proofs.gap.Reads as gap-reads
 use Rattle.share.proofs.interval_total.Reads as interval-total-reads
 use Rattle.share.proofs.smaller.Reads as smaller-reads
+use Rattle.share.proofs.next_way.Reads as next-way-reads
 use Rattle.share.proofs.+from_dose+from_interval.{statement}
 use Rattle.share.proofs.+from_dose+from_interval.Tie.{close}
 
@@ -50,13 +51,13 @@ from-interval-below t =
     from-interval.Pre
 
 abbrev from-dose-claims : ℕ → from-dose-lts.Claims
-from-dose-claims t = (gap-reads.Asked, gap-reads.Learnt, smaller-reads.Asked, smaller-reads.Learnt, from-interval-below t, from-interval.Post)
+from-dose-claims t = (gap-reads.Asked, gap-reads.Learnt, smaller-reads.Asked, smaller-reads.Learnt, next-way-reads.Asked, next-way-reads.Learnt, from-interval-below t, from-interval.Post)
 
 abbrev from-interval-claims : ℕ → from-interval-lts.Claims
 from-interval-claims t = (interval-total-reads.Asked, interval-total-reads.Learnt, gap-reads.Asked, gap-reads.Learnt, smaller-reads.Asked, smaller-reads.Learnt, from-dose-below t, from-dose.Post)
 
 abbrev from-dose-Inv-loop : from-dose-lts.InvT-loop
-from-dose-Inv-loop x₀ rooms holds d want least marks₀ j₀ x marks j = (j ≤ 47) × (length x ≡ 1128) × (length marks ≡ 71) × Kept marks₀ x₀ marks x × (x ≡ x₀) × Exhausted rooms holds least x₀ marks₀ marks × ((i : ℕ) → i < j → cell x₀ d i + least ≤ cell rooms d i → Seen marks (24 + i))
+from-dose-Inv-loop x₀ rooms holds d want least marks₀ j₀ x marks j = (j ≤ 47) × (length x ≡ 1128) × (length marks ≡ 72) × Kept marks₀ x₀ marks x × (x ≡ x₀) × Exhausted rooms holds least x₀ marks₀ marks × ((i : ℕ) → i < j → cell x₀ d i + least ≤ cell rooms d i → Seen marks (24 + i))
 
 abbrev from-dose-μ-loop : from-dose-lts.MeasureT-loop
 from-dose-μ-loop x₀ rooms holds d want least marks₀ j₀ x marks j = 47 - j
@@ -108,31 +109,53 @@ from-dose-gap-requires t c κs = search needs
 from-dose-smaller-requires : (t : ℕ) → from-dose-lts.Need-smaller-requires (from-dose-claims t) (from-dose-at t) from-dose.Post from-dose-Inv-loop from-dose-μ-loop
 from-dose-smaller-requires t c κs = search needs
 
-from-dose-add-j : (t : ℕ) → from-dose-lts.Need-add-j (from-dose-claims t) (from-dose-at t) from-dose.Post from-dose-Inv-loop from-dose-μ-loop
-from-dose-add-j t c = search needs
+from-dose-add-next-way : (t : ℕ) → from-dose-lts.Need-add-next-way (from-dose-claims t) (from-dose-at t) from-dose.Post from-dose-Inv-loop from-dose-μ-loop
+from-dose-add-next-way t c = search needs
+
+from-dose-next-way-requires : (t : ℕ) → from-dose-lts.Need-next-way-requires (from-dose-claims t) (from-dose-at t) from-dose.Post from-dose-Inv-loop from-dose-μ-loop
+from-dose-next-way-requires t c κs = (c .before .before .before .before .before .before .before .loop .inv .1, c .before .before .before .before .before .before .before .before .before .before .before .before .before .pre .1 .0 .rooms, omega arith, omega arith)
 
 from-dose-loop-less : (t : ℕ) → from-dose-lts.Need-loop-less (from-dose-claims t) (from-dose-at t) from-dose.Post from-dose-Inv-loop from-dose-μ-loop
-from-dose-loop-less t c = search needs
+from-dose-loop-less t c = omega (arith, c .next-way .ensures .0, c .before .before .before .before .before .before .before .before .loop .inv .0)
 
 from-dose-loop-again : (t : ℕ) → from-dose-lts.Need-loop-again (from-dose-claims t) (from-dose-at t) from-dose.Post from-dose-Inv-loop from-dose-μ-loop
 from-dose-loop-again t c =
-    let A = c .before .before .before .before .before .before .before .before .before .before .before .before .args in
-    let L = c .before .before .before .before .before .before .loop in (
-      omega arith,
+    let A = c .before .before .before .before .before .before .before .before .before .before .before .before .before .before .args in
+    let L = c .before .before .before .before .before .before .before .before .loop in
+    let N = c .next-way .ensures in (
+      N .1,
       L .inv .1,
       L .inv .2,
       L .inv .3,
       L .inv .4,
       L .inv .5,
-      below-more _ (L .j) (λ i h l. L .inv .6 i h l) (λ l. absurd (let h : cell (L .shares) (A .d) (L .j) + A .least ≤ cell (A .rooms .now) (A .d) (L .j) = rw (L .inv .4) l in let m : A .least ≤ c .before .smaller .result = c .before .smaller .ensures .2 (A .least) (omega arith) (omega (arith, c .before .before .gap .ensures, h)) in let z : ⊥ = omega (arith, c .if3 .taken) in z)),
+      below-to _ (L .j) (c .next-way .result) (λ i h l. L .inv .6 i h l)
+          (λ l. absurd (let h : cell (L .shares) (A .d) (L .j) + A .least ≤ cell (A .rooms .now) (A .d) (L .j) = rw (L .inv .4) l in let m : A .least ≤ c .before .before .before .smaller .result = c .before .before .before .smaller .ensures .2 (A .least) (omega arith) (omega (arith, c .before .before .before .before .gap .ensures, h)) in let z : ⊥ = omega (arith, c .before .before .if3 .taken) in z))
+          (λ i g h l. absurd (let k : cell (L .shares) (A .d) i + A .least ≤ cell (A .rooms .now) (A .d) i = rw (L .inv .4) l in let z : ⊥ = omega (arith, N .2 i g h, k) in z)),
     )
+
+from-dose-add-if4 : (t : ℕ) → from-dose-lts.Need-add-if4 (from-dose-claims t) (from-dose-at t) from-dose.Post from-dose-Inv-loop from-dose-μ-loop
+from-dose-add-if4 t c = search needs
+
+from-dose-array-read-if4 : (t : ℕ) → from-dose-lts.Need-array-read-if4 (from-dose-claims t) (from-dose-at t) from-dose.Post from-dose-Inv-loop from-dose-μ-loop
+from-dose-array-read-if4 t c = search needs
+
+from-dose-add-j : (t : ℕ) → from-dose-lts.Need-add-j (from-dose-claims t) (from-dose-at t) from-dose.Post from-dose-Inv-loop from-dose-μ-loop
+from-dose-add-j t c = search needs
+
+from-dose-loop-less-2 : (t : ℕ) → from-dose-lts.Need-loop-less-2 (from-dose-claims t) (from-dose-at t) from-dose.Post from-dose-Inv-loop from-dose-μ-loop
+from-dose-loop-less-2 t c = search needs
+
+from-dose-loop-again-2 : (t : ℕ) → from-dose-lts.Need-loop-again-2 (from-dose-claims t) (from-dose-at t) from-dose.Post from-dose-Inv-loop from-dose-μ-loop
+from-dose-loop-again-2 t c =
+    let L = c .before .before .before .before .before .before .before .loop in (omega arith, L .inv .1, L .inv .2, L .inv .3, L .inv .4, L .inv .5, below-more _ (L .j) (λ i h l. L .inv .6 i h l) (λ l. c .if4 .taken))
 
 from-dose-from-interval-requires : (t : ℕ) → from-dose-lts.Need-from-interval-requires (from-dose-claims t) (from-dose-at t) from-dose.Post from-dose-Inv-loop from-dose-μ-loop
 from-dose-from-interval-requires t c κs =
-    let A = c .before .before .before .before .before .before .before .before .before .before .before .before .before .args in
-    let L = c .before .before .before .before .before .before .before .loop in
-    let Q = c .before .before .before .before .before .before .before .before .before .before .before .before .before .pre in
-    (falls-to (A .t4) (A .d) t (omega arith) (c .before .before .before .before .before .before .before .before .if2 .left) (Q .0) (L .inv .3), (record { shares = L .inv .1; rooms = Q .1 .0 .rooms; holds = Q .1 .0 .holds }, bounded-same (Q .1 .1) (L .inv .4), omega arith, Q .1 .3))
+    let A = c .before .before .before .before .before .before .before .before .before .before .before .before .before .before .args in
+    let L = c .before .before .before .before .before .before .before .before .loop in
+    let Q = c .before .before .before .before .before .before .before .before .before .before .before .before .before .before .pre in
+    (falls-to (A .t4) (A .d) t (omega arith) (c .before .before .before .before .before .before .before .before .before .if2 .left) (Q .0) (L .inv .3), (record { shares = L .inv .1; rooms = Q .1 .0 .rooms; holds = Q .1 .0 .holds }, bounded-same (Q .1 .1) (L .inv .4), omega arith, Q .1 .3))
 
 from-dose-mul-shares : (t : ℕ) → from-dose-lts.Need-mul-shares (from-dose-claims t) (from-dose-at t) from-dose.Post from-dose-Inv-loop from-dose-μ-loop
 from-dose-mul-shares t c = search needs
@@ -142,11 +165,11 @@ from-dose-slice-read-shares t c = search needs
 
 from-dose-add-shares : (t : ℕ) → from-dose-lts.Need-add-shares (from-dose-claims t) (from-dose-at t) from-dose.Post from-dose-Inv-loop from-dose-μ-loop
 from-dose-add-shares t c =
-    let A = c .before .before .before .before .before .before .before .before .before .before .before .before .before .before .before .before .before .before .before .args in
-    let L = c .before .before .before .before .before .before .before .before .before .before .before .before .before .loop in
+    let A = c .before .before .before .before .before .before .before .before .before .before .before .before .before .before .before .before .before .before .before .before .args in
+    let L = c .before .before .before .before .before .before .before .before .before .before .before .before .before .before .loop in
     let P = c .before .before .before .before .before .from-interval .ensures .pushed in
-    let on : Seen (set (A .t4) (A .d) true) (A .d) = getD-set-same (A .t4) (A .d) true false (omega arith) in
-    omega (arith, c .before .before .before .before .before .before .before .before .before .before .before .shared-slice-known3 .given (A .d * 47 + L .j), sum-fits _ _ _ _ _ _ (P .within) (c .before .before .before .before .before .before .before .before .smaller .ensures .1) (c .before .before .before .before .before .before .before .before .before .gap .ensures) (P .kept .doses (A .d) (L .j) (omega arith) (omega arith) (L .inv .3 .more _ on)) (c .before .if4 .taken))
+    let on : Seen (set (A .t4) (A .d) true) (A .d) = getD-set-same (A .t4) (A .d) true false (omega (arith, c .before .before .before .before .before .before .before .before .before .before .before .before .before .before .before .before .before .before .before .before .good .1 .1 .1 .0, c .before .before .before .before .before .before .before .before .before .before .before .before .before .before .before .before .before .before .before .before .pre .1 .2)) in
+    omega (arith, c .before .before .before .before .before .before .before .before .before .before .before .before .shared-slice-known3 .given (A .d * 47 + L .j), sum-fits _ _ _ _ _ _ (P .within) (c .before .before .before .before .before .before .before .before .before .smaller .ensures .1) (c .before .before .before .before .before .before .before .before .before .before .gap .ensures) (P .kept .doses (A .d) (L .j) (omega arith) (omega arith) (L .inv .3 .more _ on)) (c .before .if5 .taken))
 
 from-dose-mul-shares-2 : (t : ℕ) → from-dose-lts.Need-mul-shares-2 (from-dose-claims t) (from-dose-at t) from-dose.Post from-dose-Inv-loop from-dose-μ-loop
 from-dose-mul-shares-2 t c = search needs
@@ -159,34 +182,34 @@ from-dose-same-length t c = simp length-set (omega arith)
 
 from-dose-returns-3 : (t : ℕ) → from-dose-lts.Need-returns-3 (from-dose-claims t) (from-dose-at t) from-dose.Post from-dose-Inv-loop from-dose-μ-loop
 from-dose-returns-3 t c =
-    let A = c .before .before .before .before .before .before .before .before .before .before .before .before .before .before .before .before .before .before .before .args in
-    let L = c .before .before .before .before .before .before .before .before .before .before .before .before .before .loop in
+    let A = c .before .before .before .before .before .before .before .before .before .before .before .before .before .before .before .before .before .before .before .before .args in
+    let L = c .before .before .before .before .before .before .before .before .before .before .before .before .before .before .loop in
     let P = c .before .before .before .before .before .from-interval .ensures .pushed in
-    let on : Seen (set (A .t4) (A .d) true) (A .d) = getD-set-same (A .t4) (A .d) true false (omega arith) in
+    let on : Seen (set (A .t4) (A .d) true) (A .d) = getD-set-same (A .t4) (A .d) true false (omega (arith, c .before .before .before .before .before .before .before .before .before .before .before .before .before .before .before .before .before .before .before .before .good .1 .1 .1 .0, c .before .before .before .before .before .before .before .before .before .before .before .before .before .before .before .before .before .before .before .before .pre .1 .2)) in
     record {
       pushed = record {
-        within = omega (arith, P .within, c .before .before .before .before .before .before .before .before .smaller .ensures .0);
-        none = λ h. absurd (not-both h (c .before .before .before .before .before .before .before .before .before .before .before .before .before .before .if2 .left));
-        kept = kept-write (A .d) (L .j) _ (omega arith) (omega arith) (kept-trans (kept-mark (A .t4) _ (A .d) (omega arith) (c .before .before .before .before .before .before .before .before .before .before .before .before .before .before .if2 .left)) (kept-trans (L .inv .3) (P .kept))) (λ h. not-both h (c .before .before .before .before .before .before .before .before .before .before .before .before .before .before .if2 .left))
-            (λ h. let z = P .none (L .inv .3 .more _ (marked (A .t4) (A .d) (24 + L .j) h)) in omega (arith, z, c .before .if4 .taken));
+        within = omega (arith, P .within, c .before .before .before .before .before .before .before .before .before .smaller .ensures .0);
+        none = λ h. absurd (not-both h (c .before .before .before .before .before .before .before .before .before .before .before .before .before .before .before .if2 .left));
+        kept = kept-write (A .d) (L .j) _ (omega arith) (omega arith) (kept-trans (kept-mark (A .t4) _ (A .d) (omega (arith, c .before .before .before .before .before .before .before .before .before .before .before .before .before .before .before .before .before .before .before .before .good .1 .1 .1 .0, c .before .before .before .before .before .before .before .before .before .before .before .before .before .before .before .before .before .before .before .before .pre .1 .2)) (c .before .before .before .before .before .before .before .before .before .before .before .before .before .before .before .if2 .left)) (kept-trans (L .inv .3) (P .kept))) (λ h. not-both h (c .before .before .before .before .before .before .before .before .before .before .before .before .before .before .before .if2 .left))
+            (λ h. let z = P .none (L .inv .3 .more _ (marked (A .t4) (A .d) (24 + L .j) h)) in omega (arith, z, c .before .if5 .taken));
         marks = λ _. P .kept .more (A .d) (L .inv .3 .more (A .d) on);
-        same = λ z. absurd (let w : ⊥ = omega (arith, c .before .if4 .taken) in w);
-        exhausted = λ z. absurd (let w : ⊥ = omega (arith, c .before .if4 .taken) in w);
+        same = λ z. absurd (let w : ⊥ = omega (arith, c .before .if5 .taken) in w);
+        exhausted = λ z. absurd (let w : ⊥ = omega (arith, c .before .if5 .taken) in w);
       };
       up = dose-write (A .d) (L .j) _ (omega arith) (omega arith) (omega arith) (down-from (L .inv .4) (c .before .before .before .before .before .from-interval .ensures .down))
-          (sum-fits _ _ _ _ _ _ (P .within) (c .before .before .before .before .before .before .before .before .smaller .ensures .1) (c .before .before .before .before .before .before .before .before .before .gap .ensures) (P .kept .doses (A .d) (L .j) (omega arith) (omega arith) (L .inv .3 .more _ on)) (c .before .if4 .taken));
+          (sum-fits _ _ _ _ _ _ (P .within) (c .before .before .before .before .before .before .before .before .before .smaller .ensures .1) (c .before .before .before .before .before .before .before .before .before .before .gap .ensures) (P .kept .doses (A .d) (L .j) (omega arith) (omega arith) (L .inv .3 .more _ on)) (c .before .if5 .taken));
     }
 
 from-dose-add-j-2 : (t : ℕ) → from-dose-lts.Need-add-j-2 (from-dose-claims t) (from-dose-at t) from-dose.Post from-dose-Inv-loop from-dose-μ-loop
 from-dose-add-j-2 t c = search needs
 
-from-dose-loop-less-2 : (t : ℕ) → from-dose-lts.Need-loop-less-2 (from-dose-claims t) (from-dose-at t) from-dose.Post from-dose-Inv-loop from-dose-μ-loop
-from-dose-loop-less-2 t c = search needs
+from-dose-loop-less-3 : (t : ℕ) → from-dose-lts.Need-loop-less-3 (from-dose-claims t) (from-dose-at t) from-dose.Post from-dose-Inv-loop from-dose-μ-loop
+from-dose-loop-less-3 t c = search needs
 
-from-dose-loop-again-2 : (t : ℕ) → from-dose-lts.Need-loop-again-2 (from-dose-claims t) (from-dose-at t) from-dose.Post from-dose-Inv-loop from-dose-μ-loop
-from-dose-loop-again-2 t c =
-    let A = c .before .before .before .before .before .before .before .before .before .before .before .before .before .before .before .before .before .before .args in
-    let L = c .before .before .before .before .before .before .before .before .before .before .before .before .loop in
+from-dose-loop-again-3 : (t : ℕ) → from-dose-lts.Need-loop-again-3 (from-dose-claims t) (from-dose-at t) from-dose.Post from-dose-Inv-loop from-dose-μ-loop
+from-dose-loop-again-3 t c =
+    let A = c .before .before .before .before .before .before .before .before .before .before .before .before .before .before .before .before .before .before .before .args in
+    let L = c .before .before .before .before .before .before .before .before .before .before .before .before .before .loop in
     let P = c .before .before .before .before .from-interval .ensures .pushed in
     let nil : c .before .before .before .before .from-interval .result .amount ≡ 0 = omega arith in (
       omega arith,
@@ -195,7 +218,7 @@ from-dose-loop-again-2 t c =
       kept-trans (L .inv .3) (P .kept),
       P .same nil ∙ L .inv .4,
       exhausted-trans (L .inv .5) (rw (L .inv .4) at (P .exhausted nil)) (P .kept),
-      below-more _ (L .j) (λ i h l. P .kept .more (24 + i) (L .inv .6 i h l)) (λ l. P .marks (let h : cell (L .shares) (A .d) (L .j) + A .least ≤ cell (A .rooms .now) (A .d) (L .j) = rw (L .inv .4) l in c .before .before .before .before .before .before .before .smaller .ensures .2 (A .least) (omega arith) (omega (arith, c .before .before .before .before .before .before .before .before .gap .ensures, h)))),
+      below-more _ (L .j) (λ i h l. P .kept .more (24 + i) (L .inv .6 i h l)) (λ l. P .marks (let h : cell (L .shares) (A .d) (L .j) + A .least ≤ cell (A .rooms .now) (A .d) (L .j) = rw (L .inv .4) l in c .before .before .before .before .before .before .before .before .smaller .ensures .2 (A .least) (omega arith) (omega (arith, c .before .before .before .before .before .before .before .before .before .gap .ensures, h)))),
     )
 
 from-dose-same-length-2 : (t : ℕ) → from-dose-lts.Need-same-length-2 (from-dose-claims t) (from-dose-at t) from-dose.Post from-dose-Inv-loop from-dose-μ-loop
@@ -218,7 +241,7 @@ from-dose-returns-4 t c =
     }
 
 abbrev from-interval-Inv-loop : from-interval-lts.InvT-loop
-from-interval-Inv-loop x₀ rooms holds j want least marks₀ most spare d₀ x marks d = (d ≤ 24) × (length x ≡ 1128) × (length marks ≡ 71) × Kept marks₀ x₀ marks x × (x ≡ x₀) × Exhausted rooms holds least x₀ marks₀ marks × ((e : ℕ) → e < d → least ≤ cell x₀ e j → Seen marks e)
+from-interval-Inv-loop x₀ rooms holds j want least marks₀ most spare d₀ x marks d = (d ≤ 24) × (length x ≡ 1128) × (length marks ≡ 72) × Kept marks₀ x₀ marks x × (x ≡ x₀) × Exhausted rooms holds least x₀ marks₀ marks × ((e : ℕ) → e < d → least ≤ cell x₀ e j → Seen marks e)
 
 abbrev from-interval-μ-loop : from-interval-lts.MeasureT-loop
 from-interval-μ-loop x₀ rooms holds j want least marks₀ most spare d₀ x marks d = 24 - d
@@ -320,12 +343,25 @@ from-interval-loop-again t c =
       below-more _ (L .d) (λ e h l. L .inv .6 e h l) (λ l. absurd (let h : A .least ≤ cell (L .shares) (L .d) (A .j) = rw (L .inv .4) l in let m : A .least ≤ c .before .smaller2 .result = c .before .smaller2 .ensures .2 (A .least) (omega arith) h in let z : ⊥ = omega (arith, c .if4 .taken) in z)),
     )
 
+from-interval-array-read-if5 : (t : ℕ) → from-interval-lts.Need-array-read-if5 (from-interval-claims t) (from-interval-at t) from-interval.Post from-interval-Inv-loop from-interval-μ-loop
+from-interval-array-read-if5 t c = search needs
+
+from-interval-add-d-2 : (t : ℕ) → from-interval-lts.Need-add-d-2 (from-interval-claims t) (from-interval-at t) from-interval.Post from-interval-Inv-loop from-interval-μ-loop
+from-interval-add-d-2 t c = search needs
+
+from-interval-loop-less-2 : (t : ℕ) → from-interval-lts.Need-loop-less-2 (from-interval-claims t) (from-interval-at t) from-interval.Post from-interval-Inv-loop from-interval-μ-loop
+from-interval-loop-less-2 t c = search needs
+
+from-interval-loop-again-2 : (t : ℕ) → from-interval-lts.Need-loop-again-2 (from-interval-claims t) (from-interval-at t) from-interval.Post from-interval-Inv-loop from-interval-μ-loop
+from-interval-loop-again-2 t c =
+    let L = c .before .before .before .before .before .loop in (omega arith, L .inv .1, L .inv .2, L .inv .3, L .inv .4, L .inv .5, below-more _ (L .d) (λ e h l. L .inv .6 e h l) (λ l. c .if5 .taken))
+
 from-interval-from-dose-requires : (t : ℕ) → from-interval-lts.Need-from-dose-requires (from-interval-claims t) (from-interval-at t) from-interval.Post from-interval-Inv-loop from-interval-μ-loop
 from-interval-from-dose-requires t c κs =
-    let A = c .before .before .before .before .before .before .before .before .before .before .before .before .before .before .before .before .args in
-    let L = c .before .before .before .before .before .loop in
-    let Q = c .before .before .before .before .before .before .before .before .before .before .before .before .before .before .before .before .pre in
-    (falls-to (A .t4) (24 + A .j) t (omega arith) (c .before .before .before .before .before .before .before .before .before .before .before .if2 .left) (Q .0) (L .inv .3), (record { shares = L .inv .1; rooms = Q .1 .0 .rooms; holds = Q .1 .0 .holds }, bounded-same (Q .1 .1) (L .inv .4), omega arith, Q .1 .3))
+    let A = c .before .before .before .before .before .before .before .before .before .before .before .before .before .before .before .before .before .args in
+    let L = c .before .before .before .before .before .before .loop in
+    let Q = c .before .before .before .before .before .before .before .before .before .before .before .before .before .before .before .before .before .pre in
+    (falls-to (A .t4) (24 + A .j) t (omega arith) (c .before .before .before .before .before .before .before .before .before .before .before .before .if2 .left) (Q .0) (L .inv .3), (record { shares = L .inv .1; rooms = Q .1 .0 .rooms; holds = Q .1 .0 .holds }, bounded-same (Q .1 .1) (L .inv .4), omega arith, Q .1 .3))
 
 from-interval-mul-shares : (t : ℕ) → from-interval-lts.Need-mul-shares (from-interval-claims t) (from-interval-at t) from-interval.Post from-interval-Inv-loop from-interval-μ-loop
 from-interval-mul-shares t c = search needs
@@ -335,11 +371,11 @@ from-interval-slice-read-shares t c = search needs
 
 from-interval-sub-shares : (t : ℕ) → from-interval-lts.Need-sub-shares (from-interval-claims t) (from-interval-at t) from-interval.Post from-interval-Inv-loop from-interval-μ-loop
 from-interval-sub-shares t c =
-    let A = c .before .before .before .before .before .before .before .before .before .before .before .before .before .before .before .before .before .before .before .before .before .before .args in
-    let L = c .before .before .before .before .before .before .before .before .before .before .before .loop in
+    let A = c .before .before .before .before .before .before .before .before .before .before .before .before .before .before .before .before .before .before .before .before .before .before .before .args in
+    let L = c .before .before .before .before .before .before .before .before .before .before .before .before .loop in
     let P = c .before .before .before .before .before .from-dose .ensures .pushed in
-    let on : Seen (set (A .t4) (24 + A .j) true) (24 + A .j) = getD-set-same (A .t4) (24 + A .j) true false (omega (arith, c .before .before .before .before .before .before .before .before .before .before .before .before .before .before .before .before .before .before .before .before .before .before .good .1 .1 .1 .0, c .before .before .before .before .before .before .before .before .before .before .before .before .before .before .before .before .before .before .before .before .before .before .pre .1 .2)) in
-    omega (arith, P .within, c .before .before .before .before .before .before .before .before .smaller2 .ensures .1, P .kept .intervals (L .d) (A .j) (omega arith) (omega arith) (L .inv .3 .more _ on))
+    let on : Seen (set (A .t4) (24 + A .j) true) (24 + A .j) = getD-set-same (A .t4) (24 + A .j) true false (omega (arith, c .before .before .before .before .before .before .before .before .before .before .before .before .before .before .before .before .before .before .before .before .before .before .before .good .1 .1 .1 .0, c .before .before .before .before .before .before .before .before .before .before .before .before .before .before .before .before .before .before .before .before .before .before .before .pre .1 .2)) in
+    omega (arith, P .within, c .before .before .before .before .before .before .before .before .before .smaller2 .ensures .1, P .kept .intervals (L .d) (A .j) (omega arith) (omega arith) (L .inv .3 .more _ on))
 
 from-interval-mul-shares-2 : (t : ℕ) → from-interval-lts.Need-mul-shares-2 (from-interval-claims t) (from-interval-at t) from-interval.Post from-interval-Inv-loop from-interval-μ-loop
 from-interval-mul-shares-2 t c = search needs
@@ -352,35 +388,35 @@ from-interval-same-length-2 t c = simp length-set (omega arith)
 
 from-interval-returns-4 : (t : ℕ) → from-interval-lts.Need-returns-4 (from-interval-claims t) (from-interval-at t) from-interval.Post from-interval-Inv-loop from-interval-μ-loop
 from-interval-returns-4 t c =
-    let A = c .before .before .before .before .before .before .before .before .before .before .before .before .before .before .before .before .before .before .before .before .before .before .args in
-    let L = c .before .before .before .before .before .before .before .before .before .before .before .loop in
+    let A = c .before .before .before .before .before .before .before .before .before .before .before .before .before .before .before .before .before .before .before .before .before .before .before .args in
+    let L = c .before .before .before .before .before .before .before .before .before .before .before .before .loop in
     let P = c .before .before .before .before .before .from-dose .ensures .pushed in
-    let on : Seen (set (A .t4) (24 + A .j) true) (24 + A .j) = getD-set-same (A .t4) (24 + A .j) true false (omega (arith, c .before .before .before .before .before .before .before .before .before .before .before .before .before .before .before .before .before .before .before .before .before .before .good .1 .1 .1 .0, c .before .before .before .before .before .before .before .before .before .before .before .before .before .before .before .before .before .before .before .before .before .before .pre .1 .2)) in
+    let on : Seen (set (A .t4) (24 + A .j) true) (24 + A .j) = getD-set-same (A .t4) (24 + A .j) true false (omega (arith, c .before .before .before .before .before .before .before .before .before .before .before .before .before .before .before .before .before .before .before .before .before .before .before .good .1 .1 .1 .0, c .before .before .before .before .before .before .before .before .before .before .before .before .before .before .before .before .before .before .before .before .before .before .before .pre .1 .2)) in
     record {
       pushed = record {
-        within = omega (arith, P .within, c .before .before .before .before .before .before .before .before .smaller2 .ensures .0);
-        none = λ h. absurd (not-both h (c .before .before .before .before .before .before .before .before .before .before .before .before .before .before .before .before .before .if2 .left));
-        kept = kept-write (L .d) (A .j) _ (omega arith) (omega arith) (kept-trans (kept-mark (A .t4) _ (24 + A .j) (omega (arith, c .before .before .before .before .before .before .before .before .before .before .before .before .before .before .before .before .before .before .before .before .before .before .good .1 .1 .1 .0, c .before .before .before .before .before .before .before .before .before .before .before .before .before .before .before .before .before .before .before .before .before .before .pre .1 .2)) (c .before .before .before .before .before .before .before .before .before .before .before .before .before .before .before .before .before .if2 .left)) (kept-trans (L .inv .3) (P .kept)))
-            (λ h. let z = P .none (L .inv .3 .more _ (marked (A .t4) (24 + A .j) (L .d) h)) in omega (arith, z, c .before .if5 .taken))
-            (λ h. not-both h (c .before .before .before .before .before .before .before .before .before .before .before .before .before .before .before .before .before .if2 .left));
+        within = omega (arith, P .within, c .before .before .before .before .before .before .before .before .before .smaller2 .ensures .0);
+        none = λ h. absurd (not-both h (c .before .before .before .before .before .before .before .before .before .before .before .before .before .before .before .before .before .before .if2 .left));
+        kept = kept-write (L .d) (A .j) _ (omega arith) (omega arith) (kept-trans (kept-mark (A .t4) _ (24 + A .j) (omega (arith, c .before .before .before .before .before .before .before .before .before .before .before .before .before .before .before .before .before .before .before .before .before .before .before .good .1 .1 .1 .0, c .before .before .before .before .before .before .before .before .before .before .before .before .before .before .before .before .before .before .before .before .before .before .before .pre .1 .2)) (c .before .before .before .before .before .before .before .before .before .before .before .before .before .before .before .before .before .before .if2 .left)) (kept-trans (L .inv .3) (P .kept)))
+            (λ h. let z = P .none (L .inv .3 .more _ (marked (A .t4) (24 + A .j) (L .d) h)) in omega (arith, z, c .before .if6 .taken))
+            (λ h. not-both h (c .before .before .before .before .before .before .before .before .before .before .before .before .before .before .before .before .before .before .if2 .left));
         marks = λ _. P .kept .more (24 + A .j) (L .inv .3 .more (24 + A .j) on);
-        same = λ z. absurd (let w : ⊥ = omega (arith, c .before .if5 .taken) in w);
-        exhausted = λ z. absurd (let w : ⊥ = omega (arith, c .before .if5 .taken) in w);
+        same = λ z. absurd (let w : ⊥ = omega (arith, c .before .if6 .taken) in w);
+        exhausted = λ z. absurd (let w : ⊥ = omega (arith, c .before .if6 .taken) in w);
       };
       down = interval-write (L .d) (A .j) _ (omega arith) (omega arith) (omega arith) (up-from (L .inv .4) (c .before .before .before .before .before .from-dose .ensures .up))
-          (omega (arith, P .within, c .before .before .before .before .before .before .before .before .smaller2 .ensures .1, P .kept .intervals (L .d) (A .j) (omega arith) (omega arith) (L .inv .3 .more _ on)));
+          (omega (arith, P .within, c .before .before .before .before .before .before .before .before .before .smaller2 .ensures .1, P .kept .intervals (L .d) (A .j) (omega arith) (omega arith) (L .inv .3 .more _ on)));
     }
 
-from-interval-add-d-2 : (t : ℕ) → from-interval-lts.Need-add-d-2 (from-interval-claims t) (from-interval-at t) from-interval.Post from-interval-Inv-loop from-interval-μ-loop
-from-interval-add-d-2 t c = search needs
+from-interval-add-d-3 : (t : ℕ) → from-interval-lts.Need-add-d-3 (from-interval-claims t) (from-interval-at t) from-interval.Post from-interval-Inv-loop from-interval-μ-loop
+from-interval-add-d-3 t c = search needs
 
-from-interval-loop-less-2 : (t : ℕ) → from-interval-lts.Need-loop-less-2 (from-interval-claims t) (from-interval-at t) from-interval.Post from-interval-Inv-loop from-interval-μ-loop
-from-interval-loop-less-2 t c = search needs
+from-interval-loop-less-3 : (t : ℕ) → from-interval-lts.Need-loop-less-3 (from-interval-claims t) (from-interval-at t) from-interval.Post from-interval-Inv-loop from-interval-μ-loop
+from-interval-loop-less-3 t c = search needs
 
-from-interval-loop-again-2 : (t : ℕ) → from-interval-lts.Need-loop-again-2 (from-interval-claims t) (from-interval-at t) from-interval.Post from-interval-Inv-loop from-interval-μ-loop
-from-interval-loop-again-2 t c =
-    let A = c .before .before .before .before .before .before .before .before .before .before .before .before .before .before .before .before .before .before .before .before .before .args in
-    let L = c .before .before .before .before .before .before .before .before .before .before .loop in
+from-interval-loop-again-3 : (t : ℕ) → from-interval-lts.Need-loop-again-3 (from-interval-claims t) (from-interval-at t) from-interval.Post from-interval-Inv-loop from-interval-μ-loop
+from-interval-loop-again-3 t c =
+    let A = c .before .before .before .before .before .before .before .before .before .before .before .before .before .before .before .before .before .before .before .before .before .before .args in
+    let L = c .before .before .before .before .before .before .before .before .before .before .before .loop in
     let P = c .before .before .before .before .from-dose .ensures .pushed in
     let nil : c .before .before .before .before .from-dose .result .amount ≡ 0 = omega arith in (
       omega arith,
@@ -389,7 +425,7 @@ from-interval-loop-again-2 t c =
       kept-trans (L .inv .3) (P .kept),
       P .same nil ∙ L .inv .4,
       exhausted-trans (L .inv .5) (rw (L .inv .4) at (P .exhausted nil)) (P .kept),
-      below-more _ (L .d) (λ e h l. P .kept .more e (L .inv .6 e h l)) (λ l. P .marks (let h : A .least ≤ cell (L .shares) (L .d) (A .j) = rw (L .inv .4) l in c .before .before .before .before .before .before .before .smaller2 .ensures .2 (A .least) (omega arith) h)),
+      below-more _ (L .d) (λ e h l. P .kept .more e (L .inv .6 e h l)) (λ l. P .marks (let h : A .least ≤ cell (L .shares) (L .d) (A .j) = rw (L .inv .4) l in c .before .before .before .before .before .before .before .before .smaller2 .ensures .2 (A .least) (omega arith) h)),
     )
 
 from-interval-same-length-3 : (t : ℕ) → from-interval-lts.Need-same-length-3 (from-interval-claims t) (from-interval-at t) from-interval.Post from-interval-Inv-loop from-interval-μ-loop
@@ -430,9 +466,15 @@ pub +from-dose+from-interval-spec : {M : Type 1} → statement M
     (from-dose-slice-read-gap t)
     (from-dose-gap-requires t)
     (from-dose-smaller-requires t)
-    (from-dose-add-j t)
+    (from-dose-add-next-way t)
+    (from-dose-next-way-requires t)
     (from-dose-loop-less t)
     (from-dose-loop-again t)
+    (from-dose-add-if4 t)
+    (from-dose-array-read-if4 t)
+    (from-dose-add-j t)
+    (from-dose-loop-less-2 t)
+    (from-dose-loop-again-2 t)
     (from-dose-from-interval-requires t)
     (from-dose-mul-shares t)
     (from-dose-slice-read-shares t)
@@ -442,8 +484,8 @@ pub +from-dose+from-interval-spec : {M : Type 1} → statement M
     (from-dose-same-length t)
     (from-dose-returns-3 t)
     (from-dose-add-j-2 t)
-    (from-dose-loop-less-2 t)
-    (from-dose-loop-again-2 t)
+    (from-dose-loop-less-3 t)
+    (from-dose-loop-again-3 t)
     (from-dose-same-length-2 t)
     (from-dose-returns-4 t))
     λ t. from-interval-lts.spec (from-interval-claims t)
@@ -473,6 +515,10 @@ pub +from-dose+from-interval-spec : {M : Type 1} → statement M
     (from-interval-add-d t)
     (from-interval-loop-less t)
     (from-interval-loop-again t)
+    (from-interval-array-read-if5 t)
+    (from-interval-add-d-2 t)
+    (from-interval-loop-less-2 t)
+    (from-interval-loop-again-2 t)
     (from-interval-from-dose-requires t)
     (from-interval-mul-shares t)
     (from-interval-slice-read-shares t)
@@ -481,8 +527,8 @@ pub +from-dose+from-interval-spec : {M : Type 1} → statement M
     (from-interval-slice-write-shares t)
     (from-interval-same-length-2 t)
     (from-interval-returns-4 t)
-    (from-interval-add-d-2 t)
-    (from-interval-loop-less-2 t)
-    (from-interval-loop-again-2 t)
+    (from-interval-add-d-3 t)
+    (from-interval-loop-less-3 t)
+    (from-interval-loop-again-3 t)
     (from-interval-same-length-3 t)
     (from-interval-returns-5 t)

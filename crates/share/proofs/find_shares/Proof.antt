@@ -39,11 +39,11 @@ loop-less c = search needs
 loop-again : tie.Need-loop-again Inv-loop μ-loop
 loop-again c = (omega arith, (search needs), c .before .before .first-shares .ensures)
 
-largest-need-requires : tie.Need-largest-need-requires Inv-loop μ-loop
-largest-need-requires c κs = search needs
+largest-shortage-requires : tie.Need-largest-shortage-requires Inv-loop μ-loop
+largest-shortage-requires c κs = (c .before .before .loop .inv .1, c .before .before .before .before .before .before .before .before .before .before .before .pre .1, c .before .before .loop .inv .2 .needed)
 
 raise-requires : tie.Need-raise-requires Inv-loop μ-loop
-raise-requires c κs = (record { shares = c .before .before .before .loop .inv .1; rooms = c .before .before .before .before .before .before .before .before .before .before .before .before .pre .0 .rooms; holds = c .before .before .before .before .before .before .before .before .before .before .before .before .pre .0 .holds }, c .before .before .before .loop .inv .2, c .before .before .before .before .before .before .before .before .before .before .before .before .pre .1, omega arith)
+raise-requires c κs = (record { shares = c .before .before .before .before .loop .inv .1; rooms = c .before .before .before .before .before .before .before .before .before .before .before .before .before .pre .0 .rooms; holds = c .before .before .before .before .before .before .before .before .before .before .before .before .before .pre .0 .holds }, c .before .before .before .before .loop .inv .2, c .before .before .before .before .before .before .before .before .before .before .before .before .before .pre .1, c .before .largest-shortage .ensures)
 
 same-length : tie.Need-same-length Inv-loop μ-loop
 same-length c = omega arith
@@ -65,7 +65,7 @@ find-shares-spec =
     add-i
     loop-less
     loop-again
-    largest-need-requires
+    largest-shortage-requires
     raise-requires
     same-length
     returns)

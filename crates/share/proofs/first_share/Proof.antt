@@ -1,7 +1,7 @@
--- `first_share` meets its contract: the smallest of need, room and spare time fits all three.
+-- `first_share` meets its contract: the smallest of what is missing, room and spare time fits all three.
 use Prim.Native.Nat.{_+_, _*_}
 use native.Mathlib.Omega.{arith}
-use Rattle.share.proofs.Laws.{within-more}
+use Rattle.share.proofs.Laws.{took-none, took-more}
 use borrow.Author.Needs.{needs}
 use Rattle.share.proofs.first_share.Statement.{statement}
 use Rattle.share.proofs.first_share.Tie as tie
@@ -19,19 +19,7 @@ shared-slice-read-if1 : tie.Need-shared-slice-read-if1
 shared-slice-read-if1 c = search needs
 
 returns : tie.Need-returns
-returns c = c .before .before .before .before .before .before .pre .1
-
-mul-need : tie.Need-mul-need
-mul-need c = search needs
-
-shared-slice-read-need : tie.Need-shared-slice-read-need
-shared-slice-read-need c = search needs
-
-dose-total-requires : tie.Need-dose-total-requires
-dose-total-requires c κs = (c .before .before .before .before .before .before .before .before .pre .0 .shares, c .before .before .before .before .before .before .before .before .pre .3, c .before .before .before .before .before .before .before .before .pre .1 .needed _ (c .before .before .before .before .before .before .before .before .pre .3))
-
-sub-miss : tie.Need-sub-miss
-sub-miss c = omega (arith, c .dose-total .ensures, c .before .before .before .before .before .before .before .before .before .pre .1 .needed (c .before .before .before .before .before .before .before .before .before .args .d) (c .before .before .before .before .before .before .before .before .before .pre .3))
+returns c = took-none (c .before .before .before .before .before .args .d) (c .before .before .before .before .before .args .miss) (c .before .before .before .before .before .pre .1)
 
 mul-most : tie.Need-mul-most
 mul-most c = search needs
@@ -40,7 +28,7 @@ shared-slice-read-most : tie.Need-shared-slice-read-most
 shared-slice-read-most c = search needs
 
 interval-total-requires : tie.Need-interval-total-requires
-interval-total-requires c κs = (c .before .before .before .before .before .before .before .before .before .before .before .pre .0 .shares, c .before .before .before .before .before .before .before .before .before .before .before .pre .4, c .before .before .before .before .before .before .before .before .before .before .before .pre .1 .bounded .held _ (c .before .before .before .before .before .before .before .before .before .before .before .pre .4))
+interval-total-requires c κs = (c .before .before .before .before .before .before .before .pre .0 .shares, c .before .before .before .before .before .before .before .pre .3, c .before .before .before .before .before .before .before .pre .1 .held _ (c .before .before .before .before .before .before .before .pre .3))
 
 gap-requires : tie.Need-gap-requires
 gap-requires c κs = search needs
@@ -73,7 +61,7 @@ slice-read-shares : tie.Need-slice-read-shares
 slice-read-shares c = search needs
 
 add-shares : tie.Need-add-shares
-add-shares c = omega (arith, c .before .before .before .before .before .shared-slice-known7 .given (c .before .before .before .before .before .before .before .before .before .before .before .before .before .before .before .before .before .before .before .args .d * 47 + c .before .before .before .before .before .before .before .before .before .before .before .before .before .before .before .before .before .before .before .args .j), c .before .before .before .before .before .before .before .before .before .before .before .before .before .before .before .before .before .before .before .pre .1 .bounded .roomy (c .before .before .before .before .before .before .before .before .before .before .before .before .before .before .before .before .before .before .before .args .d) (c .before .before .before .before .before .before .before .before .before .before .before .before .before .before .before .before .before .before .before .args .j) (c .before .before .before .before .before .before .before .before .before .before .before .before .before .before .before .before .before .before .before .pre .3) (c .before .before .before .before .before .before .before .before .before .before .before .before .before .before .before .before .before .before .before .pre .4), c .before .before .before .gap2 .ensures, c .before .before .smaller .ensures .0, c .before .smaller2 .ensures .1)
+add-shares c = let A = c .before .before .before .before .before .before .before .before .before .before .before .before .before .before .before .args in omega (arith, c .before .before .before .before .before .shared-slice-known5 .given (A .d * 47 + A .j), c .before .before .before .before .before .before .before .before .before .before .before .before .before .before .before .pre .1 .roomy (A .d) (A .j) (c .before .before .before .before .before .before .before .before .before .before .before .before .before .before .before .pre .2) (c .before .before .before .before .before .before .before .before .before .before .before .before .before .before .before .pre .3), c .before .before .before .gap2 .ensures, c .before .before .smaller .ensures .0, c .before .smaller2 .ensures .1)
 
 mul-shares-2 : tie.Need-mul-shares-2
 mul-shares-2 c = search needs
@@ -81,13 +69,17 @@ mul-shares-2 c = search needs
 slice-write-shares : tie.Need-slice-write-shares
 slice-write-shares c = search needs
 
+sub-result : tie.Need-sub-result
+sub-result c = omega (arith, c .before .smaller2 .ensures .0)
+
 same-length : tie.Need-same-length
 same-length c = search needs
 
 returns-2 : tie.Need-returns-2
 returns-2 c =
-    within-more (c .before .before .before .before .before .before .before .before .before .before .before .before .before .before .before .before .before .before .before .args .d) (c .before .before .before .before .before .before .before .before .before .before .before .before .before .before .before .before .before .before .before .args .j) (c .before .smaller2 .result) (c .before .before .before .before .before .before .before .before .before .before .before .before .before .before .before .before .before .before .before .pre .3) (c .before .before .before .before .before .before .before .before .before .before .before .before .before .before .before .before .before .before .before .pre .4) (c .before .before .before .before .before .before .before .before .before .before .before .before .before .before .before .before .before .before .before .pre .0 .shares) (c .before .before .before .before .before .before .before .before .before .before .before .before .before .before .before .before .before .before .before .pre .1)
-    (omega (arith, c .before .smaller2 .ensures .0, c .before .before .before .before .before .before .before .before .before .before .dose-total .ensures)) (omega (arith, c .before .smaller2 .ensures .1, c .before .before .smaller .ensures .0, c .before .before .before .gap2 .ensures)) (omega (arith, c .before .smaller2 .ensures .1, c .before .before .smaller .ensures .1, c .before .before .before .before .before .before .gap .ensures, c .before .before .before .before .before .before .before .interval-total .ensures))
+    let A = c .before .before .before .before .before .before .before .before .before .before .before .before .before .before .before .args in
+    took-more (A .d) (A .j) (A .miss) (c .before .smaller2 .result) (c .before .before .before .before .before .before .before .before .before .before .before .before .before .before .before .pre .2) (c .before .before .before .before .before .before .before .before .before .before .before .before .before .before .before .pre .3) (c .before .before .before .before .before .before .before .before .before .before .before .before .before .before .before .pre .0 .shares) (c .before .before .before .before .before .before .before .before .before .before .before .before .before .before .before .pre .1)
+    (c .before .smaller2 .ensures .0) (omega (arith, c .before .smaller2 .ensures .1, c .before .before .smaller .ensures .0, c .before .before .before .gap2 .ensures)) (omega (arith, c .before .smaller2 .ensures .1, c .before .before .smaller .ensures .1, c .before .before .before .before .before .before .gap .ensures, c .before .before .before .before .before .before .before .interval-total .ensures))
 
 pub first-share-spec : {M : Type 1} → statement M
 first-share-spec =
@@ -98,10 +90,6 @@ first-share-spec =
     mul-if1
     shared-slice-read-if1
     returns
-    mul-need
-    shared-slice-read-need
-    dose-total-requires
-    sub-miss
     mul-most
     shared-slice-read-most
     interval-total-requires
@@ -118,5 +106,6 @@ first-share-spec =
     add-shares
     mul-shares-2
     slice-write-shares
+    sub-result
     same-length
     returns-2)

@@ -11,10 +11,10 @@ use Rattle.share.proofs.raise_dose.Statement.{statement}
 use Rattle.share.proofs.raise_dose.Tie as tie
 
 abbrev Inv-loop : tie.InvT-loop
-Inv-loop x₀ rooms holds dead d need least x = (length x ≡ 1128) × Bounded rooms holds x × (got x d ≤ need) × ((k : ℕ) → k < 24 → k ≢ d → got x k ≡ got x₀ k) × Kept dead x₀ dead x
+Inv-loop shares₀ rooms holds dead d need least shares = (length shares ≡ 1128) × Bounded rooms holds shares × (got shares d ≤ need) × ((k : ℕ) → k < 24 → k ≢ d → got shares k ≡ got shares₀ k) × Kept dead shares₀ dead shares
 
 abbrev μ-loop : tie.MeasureT-loop
-μ-loop x₀ rooms holds dead d need least x = need - got x d
+μ-loop shares₀ rooms holds dead d need least shares = need - got shares d
 
 returns : tie.Need-returns Inv-loop μ-loop
 returns c =
@@ -36,15 +36,30 @@ dose-total-requires c κs = (c .before .loop .inv .0, c .before .before .before 
 sub-miss : tie.Need-sub-miss Inv-loop μ-loop
 sub-miss c = omega (arith, c .dose-total .ensures, c .before .before .loop .inv .2)
 
-from-dose-requires : tie.Need-from-dose-requires Inv-loop μ-loop
-from-dose-requires c κs = (record { shares = c .before .before .before .loop .inv .0; rooms = c .before .before .before .before .before .before .before .before .pre .0 .rooms; holds = c .before .before .before .before .before .before .before .before .pre .0 .holds }, c .before .before .before .loop .inv .1, c .before .before .before .before .before .before .before .before .pre .2, c .before .before .before .before .before .before .before .before .pre .3)
-
 same-length : tie.Need-same-length Inv-loop μ-loop
 same-length c = omega arith
 
 returns-2 : tie.Need-returns-2 Inv-loop μ-loop
 returns-2 c =
-    let L = c .before .before .before .before .before .before .before .before .loop in
+    let L = c .before .before .before .loop in
+    record {
+      bounded = L .inv .1;
+      kept = L .inv .4;
+      exhausted = exhausted-none _ _ _ _ _;
+      own = L .inv .2;
+      others = L .inv .3;
+      met = λ h. absurd (let z : ⊥ = omega (arith, h, c .if2 .taken, c .before .dose-total .ensures) in z);
+    }
+
+from-dose-requires : tie.Need-from-dose-requires Inv-loop μ-loop
+from-dose-requires c κs = (record { shares = c .before .before .before .before .loop .inv .0; rooms = c .before .before .before .before .before .before .before .before .before .pre .0 .rooms; holds = c .before .before .before .before .before .before .before .before .before .pre .0 .holds }, c .before .before .before .before .loop .inv .1, c .before .before .before .before .before .before .before .before .before .pre .2, c .before .before .before .before .before .before .before .before .before .pre .3)
+
+same-length-2 : tie.Need-same-length-2 Inv-loop μ-loop
+same-length-2 c = omega arith
+
+returns-3 : tie.Need-returns-3 Inv-loop μ-loop
+returns-3 c =
+    let L = c .before .before .before .before .before .before .before .before .before .loop in
     let P = c .before .before .before .before .from-dose .ensures .pushed in
     let U = c .before .before .before .before .from-dose .ensures .up in
     let nil : c .before .before .before .before .from-dose .result .amount ≡ 0 = omega arith in
@@ -54,18 +69,18 @@ returns-2 c =
       exhausted = exhausted-same (P .same nil) (P .exhausted nil);
       own = omega (arith, U .own, L .inv .2);
       others = λ k h q. U .others k h q ∙ L .inv .3 k h q;
-      met = λ h. P .marks (omega (arith, U .own, c .before .before .before .before .before .before .dose-total .ensures));
+      met = λ h. P .marks (omega (arith, U .own, c .before .before .before .before .before .before .before .dose-total .ensures));
     }
 
 loop-less : tie.Need-loop-less Inv-loop μ-loop
-loop-less c = omega (arith, c .before .before .before .from-dose .ensures .up .own, c .before .before .before .from-dose .ensures .pushed .within, c .before .before .before .before .before .dose-total .ensures, c .before .before .before .before .before .before .before .loop .inv .2)
+loop-less c = omega (arith, c .before .before .before .from-dose .ensures .up .own, c .before .before .before .from-dose .ensures .pushed .within, c .before .before .before .before .before .before .dose-total .ensures, c .before .before .before .before .before .before .before .before .loop .inv .2)
 
 loop-again : tie.Need-loop-again Inv-loop μ-loop
 loop-again c =
-    let L = c .before .before .before .before .before .before .before .loop in
+    let L = c .before .before .before .before .before .before .before .before .loop in
     let P = c .before .before .before .from-dose .ensures .pushed in
     let U = c .before .before .before .from-dose .ensures .up in
-    ((search needs), U .bounded, omega (arith, U .own, P .within, c .before .before .before .before .before .dose-total .ensures, L .inv .2), λ k h q. U .others k h q ∙ L .inv .3 k h q, kept-trans (L .inv .4) (kept-drop (P .kept)))
+    ((search needs), U .bounded, omega (arith, U .own, P .within, c .before .before .before .before .before .before .dose-total .ensures, L .inv .2), λ k h q. U .others k h q ∙ L .inv .3 k h q, kept-trans (L .inv .4) (kept-drop (P .kept)))
 
 pub raise-dose-spec : {M : Type 1} → statement M
 raise-dose-spec =
@@ -77,8 +92,10 @@ raise-dose-spec =
     loop-holds
     dose-total-requires
     sub-miss
-    from-dose-requires
     same-length
     returns-2
+    from-dose-requires
+    same-length-2
+    returns-3
     loop-less
     loop-again)

@@ -16,7 +16,7 @@ abbrev μ-loop : tie.MeasureT-loop
 μ-loop x₀ rooms holds needs least dead₀ d₀ x dead d = 24 - d
 
 loop-holds : tie.Need-loop-holds Inv-loop μ-loop
-loop-holds c = (omega arith, c .before .before .before .before .pre .0 .shares, raised-none _ (all-false 71) (c .before .before .before .before .pre .1))
+loop-holds c = (omega arith, c .before .before .before .before .pre .0 .shares, raised-none _ (all-false 72) (c .before .before .before .before .pre .1))
 
 mul-need : tie.Need-mul-need Inv-loop μ-loop
 mul-need c = search needs

@@ -14,8 +14,8 @@ open-fans-requires c κs = search needs
 fan-time-requires : tie.Need-fan-time-requires
 fan-time-requires c κs = search needs
 
-rooms-of-requires : tie.Need-rooms-of-requires
-rooms-of-requires c κs = search needs
+lay-rooms-requires : tie.Need-lay-rooms-requires
+lay-rooms-requires c κs = search needs
 
 holds-of-requires : tie.Need-holds-of-requires
 holds-of-requires c κs = search needs
@@ -49,12 +49,12 @@ same-length c = search needs
 
 returns : tie.Need-returns
 returns c =
-    let A = c .before .before .before .before .before .before .before .before .before .before .before .before .before .before .before .before .before .before .args in
-    let sheet = c .before .before .before .before .before .before .before .before .before .before .before .before .before .before .before .before .before .before .pre .1 in
-    let ho = c .before .before .before .before .before .before .before .before .before .before .before .before .before .before .before .open-fans .ensures .0 in
-    let hw = c .before .before .before .before .before .before .before .before .before .before .before .before .before .before .before .before .grams-of .ensures .0 in
-    let hp = c .before .before .before .before .before .before .before .before .before .before .before .before .before .before .fan-time .ensures .0 in
-    (measured _ _ _ _ _ (A .free) (A .set) sheet _ _ _ ho hw hp, c .before .before .before .before .before .before .before .before .before .before .before .before .before .before .before .open-fans .ensures .1, tried _ _ _ _ _ (A .free) (A .set) sheet (c .before .before .before .before .before .before .before .before .before .before .before .before .before .before .before .open-fans .result) _ _ ho hw hp _ _ _ (c .before .before .before .before .before .before .before .before .before .before .before .before .before .rooms-of .ensures) (c .before .before .before .before .before .before .before .before .before .before .before .before .holds-of .ensures) (c .before .before .before .before .before .before .before .before .before .before .before .needs-of .ensures) _ _ (c .dead-part .result) _ (c .before .before .before .before .before .before .find-shares .ensures) (c .before .all-met .ensures) (c .dead-part .ensures))
+    let A = c .before .before .before .before .before .before .before .before .before .before .before .before .before .before .before .before .before .before .before .args in
+    let sheet = c .before .before .before .before .before .before .before .before .before .before .before .before .before .before .before .before .before .before .before .pre .1 in
+    let ho = c .before .before .before .before .before .before .before .before .before .before .before .before .before .before .before .before .open-fans .ensures .0 in
+    let hw = c .before .before .before .before .before .before .before .before .before .before .before .before .before .before .before .before .before .grams-of .ensures .0 in
+    let hp = c .before .before .before .before .before .before .before .before .before .before .before .before .before .before .before .fan-time .ensures .0 in
+    (measured _ _ _ _ _ (A .free) (A .set) sheet _ _ _ ho hw hp, c .before .before .before .before .before .before .before .before .before .before .before .before .before .before .before .before .open-fans .ensures .1, tried _ _ _ _ _ (A .free) (A .set) sheet (c .before .before .before .before .before .before .before .before .before .before .before .before .before .before .before .before .open-fans .result) _ _ ho hw hp _ _ _ (c .before .before .before .before .before .before .before .before .before .before .before .before .before .lay-rooms .ensures .1) (c .before .before .before .before .before .before .before .before .before .before .before .before .holds-of .ensures) (c .before .before .before .before .before .before .before .before .before .before .before .needs-of .ensures) _ _ (c .dead-part .result) _ (c .before .before .before .before .before .before .find-shares .ensures) (c .before .all-met .ensures) (c .dead-part .ensures))
 
 pub try-candidate-spec : {M : Type 1} → statement M
 try-candidate-spec =
@@ -63,7 +63,7 @@ try-candidate-spec =
     grams-of-requires
     open-fans-requires
     fan-time-requires
-    rooms-of-requires
+    lay-rooms-requires
     holds-of-requires
     needs-of-requires
     slice-aggregate-find-shares
