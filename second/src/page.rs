@@ -27,9 +27,6 @@ const SIDES: &[&dyn Peer] = &[&crate::library::Library, &OWN_FLOW];
 #[cfg(not(feature = "library"))]
 const SIDES: &[&dyn Peer] = &[&OWN_FLOW];
 
-/// Why a figure is missed, by what was asked.
-const REASONS: [(&str, &str); 0] = [];
-
 /// Something asked, and what was measured of it.
 struct Figure {
     asked: &'static str,
@@ -141,11 +138,10 @@ fn figures(kinds: &[Vec<Times>], used: [usize; 4]) -> Vec<Figure> {
 fn asked(text: &mut String, list: &[Figure]) {
     *text += "| asked | measured | met |\n|---|---|---|\n";
     for f in list {
-        writeln!(text, "| {} | {} | {} |", f.asked, f.measured, if f.met { "yes" } else { "missed: see below" }).unwrap();
+        writeln!(text, "| {} | {} | {} |", f.asked, f.measured, if f.met { "yes" } else { "no" }).unwrap();
     }
-    for f in list.iter().filter(|f| !f.met) {
-        let reason = REASONS.iter().find(|(asked, _)| *asked == f.asked).map_or("not explained yet.", |(_, reason)| reason);
-        writeln!(text, "\nMissed, {}: {reason}", f.asked).unwrap();
+    if list.iter().any(|f| !f.met) {
+        *text += "\nWhy a figure is missed stands in `docs/DECISIONS.md`.\n";
     }
 }
 
