@@ -1,42 +1,14 @@
 // The records of plan bytes (document 01, "Records": C and S), each by its index.
-use crate::Class;
-use crate::Slot;
+use plan_records::Class;
+use plan_records::Slot;
+use plan_records::class_in;
+use plan_records::slot_in;
 ghost use mathlib.Core.Path.{_≡_};
 ghost use Prim.Native.Nat.{ℕ, _/_, _<_, _≤_};
 ghost use lib.ListN.{length};
 ghost use Rattle.model.specs.Records.{recordAt};
-ghost use Rattle.model.specs.Plans.{classOf, slotOf};
-ghost use Rattle.clauses.specs.Held.{asClass, asSlot};
+ghost use Rattle.plan_records.specs.Held.{asClass, asSlot};
 ghost use Rattle.clauses.specs.Tests.{Tells, ClassRow, SlotRow, Leads, classIn, slotIn};
-
-fn class_in(r: &[u8]) -> Class
-    requires { ⌜ length (now r) ≡ 32 ⌝ }
-    ensures { λ c. ⌜ asClass c ≡ classOf (now (r .entry)) ⌝ }
-{
-    Class {
-        number: field::read8(r, 1),
-        doses: field::read16(r, 2),
-        grams: field::read32(r, 4),
-        time: field::read32(r, 8),
-    }
-}
-
-fn slot_in(r: &[u8]) -> Slot
-    requires { ⌜ length (now r) ≡ 32 ⌝ }
-    ensures { λ s. ⌜ asSlot s ≡ slotOf (now (r .entry)) ⌝ }
-{
-    Slot {
-        fan: field::read8(r, 1),
-        dose: field::read16(r, 2),
-        start_tick: field::read32(r, 4),
-        start_part: field::read32(r, 8),
-        end_tick: field::read32(r, 12),
-        end_part: field::read32(r, 16),
-        grams: field::read32(r, 20),
-        time: field::read32(r, 24),
-        class: field::read8(r, 28),
-    }
-}
 
 // Record i, read as a C.
 pub fn class_at(plan: &[u8], i: usize) -> Class

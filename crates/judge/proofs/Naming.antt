@@ -8,8 +8,8 @@ use native.Mathlib.Omega.{arith}
 use lib.ListN.{getD}
 use Rattle.model.specs.Plans as plans
 use Rattle.model.proofs.Fractions.{compare≤}
-use Rattle.clauses.specs.declared.Slot.{Slot}
-use Rattle.clauses.specs.Held.{asSlot}
+use Rattle.plan_records.specs.declared.Slot.{Slot}
+use Rattle.plan_records.specs.Held.{asSlot}
 use Rattle.clauses.specs.Tests.{Numbers, slotIn}
 
 pub numbers-none : (b : List ℕ) (p : ℕ) (N : List ℕ) → Numbers b p p N

@@ -4,28 +4,9 @@ use Prim.Native.Nat.{ℕ, _+_, _*_, _-_}
 use lib.Dec.{eqb}
 use lib.ListN.{getD}
 use Rattle.model.specs.Sets.{on}
-use Rattle.model.specs.Plans as plans
 use Rattle.model.specs.Layout as model
-use Rattle.layout.specs.declared.Class.{Class}
-use Rattle.layout.specs.declared.Slot.{Slot}
 use Rattle.layout.specs.declared.Lane.{Lane}
 use Rattle.layout.specs.declared.Tables.{Tables}
-
-abbrev pub asClass : Class → plans.Class
-asClass c = record { number = c .number; doses = c .doses; grams = c .grams; time = c .time }
-
-abbrev pub asSlot : Slot → plans.Slot
-asSlot s = record {
-  fan = s .fan;
-  dose = s .dose;
-  startTick = s .«start_tick»;
-  startPart = s .«start_part»;
-  endTick = s .«end_tick»;
-  endPart = s .«end_part»;
-  grams = s .grams;
-  time = s .time;
-  class = s .class;
-}
 
 abbrev pub asLane : Lane → model.Lane
 asLane l = record { start = l .start; len = l .len; grams = l .grams; time = l .time; class = l .class; below = l .below }

@@ -1,37 +1,17 @@
-// Records of a plan written into a lent buffer, and slots laid by wrap-around (document 01, "From classes to slots").
+// Slots laid by wrap-around into a lent buffer (document 01, "From classes to slots").
+use plan_records::Slot;
+use plan_records::put_slot;
 ghost use mathlib.Core.Path.{_≡_};
-ghost use mathlib.Core.List.{_++_, map};
+ghost use mathlib.Core.List.{map};
 ghost use Prim.Native.Nat.{_+_, _*_, _<_, _≤_};
 ghost use lib.Dec.{eqb};
 ghost use lib.ListN.{length, getD};
-ghost use Rattle.field.specs.Written.{written};
-ghost use Rattle.model.specs.Records.{numberBytes};
 ghost use Rattle.model.specs.Sets.{on};
-ghost use Rattle.model.specs.Plans.{classRecord, slotRecord, planRecordBytes};
+ghost use Rattle.model.specs.Plans.{slotRecord};
 ghost use Rattle.model.specs.Layout.{cut, pieceSlot, laneSlots, intervalSlots, tableSlots};
-ghost use Rattle.layout.specs.Held.{asClass, asSlot, asLane, shareAt, laneAt, tableFrom};
+ghost use Rattle.plan_records.specs.Held.{asSlot};
+ghost use Rattle.layout.specs.Held.{asLane, shareAt, laneAt, tableFrom};
 ghost use Rattle.layout.specs.Laying.{Wrote, Ready, Room, Rooms, Filled};
-
-// "C (0x43) class: 1 class number from 1; 2-3 doses in it; 4-7 W; 8-11 P"
-pub struct Class {
-    pub number: u32,
-    pub doses: u32,
-    pub grams: u32,
-    pub time: u32,
-}
-
-// "S (0x53) slot: 1 fan from 1; 2-3 dose; 4-7 start tick; 8-11 start part; 12-15 end tick; 16-19 end part; 20-23 W; 24-27 P; 28 class number"
-pub struct Slot {
-    pub fan: u32,
-    pub dose: u32,
-    pub start_tick: u32,
-    pub start_part: u32,
-    pub end_tick: u32,
-    pub end_part: u32,
-    pub grams: u32,
-    pub time: u32,
-    pub class: u32,
-}
 
 // One class in one interval: where it starts and how long it is, the class's W, P and number, and the fans below its own.
 pub struct Lane {
@@ -52,48 +32,6 @@ pub struct Tables {
     pub grams: [u32; 24],
     pub time: [u32; 24],
     pub class_of: [u8; 24],
-}
-
-// The first four bytes of a plan's record: its kind, a number in one byte and one in two.
-fn put_head(b: &mut [u8], at: usize, kind: u32, first: u32, second: u32)
-    requires { ⌜ at + 4 ≤ length (now b) ⌝ }
-    ensures { λ _. ⌜ now (b .exit) ≡ written (now (b .entry)) at (numberBytes 1 kind ++ (numberBytes 1 first ++ numberBytes 2 second)) ⌝ }
-{
-    field::put8(b, at, kind);
-    field::put8(b, at + 1, first);
-    field::put16(b, at + 2, second);
-}
-
-// Two numbers of four bytes each: a moment, or W and P.
-fn put_pair(b: &mut [u8], at: usize, first: u32, second: u32)
-    requires { ⌜ at + 8 ≤ length (now b) ⌝ }
-    ensures { λ _. ⌜ now (b .exit) ≡ written (now (b .entry)) at (numberBytes 4 first ++ numberBytes 4 second) ⌝ }
-{
-    field::put32(b, at, first);
-    field::put32(b, at + 4, second);
-}
-
-// Writes a C record at a place.
-pub fn put_class(b: &mut [u8], at: usize, c: Class)
-    requires { ⌜ at + 32 ≤ length (now b) ⌝ }
-    ensures { λ _. ⌜ now (b .exit) ≡ written (now (b .entry)) at (planRecordBytes (classRecord (asClass c))) ⌝ }
-{
-    put_head(b, at, 0x43, c.number, c.doses);
-    put_pair(b, at + 4, c.grams, c.time);
-    field::put_blank(b, at + 12, 20);
-}
-
-// Writes an S record at a place.
-pub fn put_slot(b: &mut [u8], at: usize, s: Slot)
-    requires { ⌜ at + 32 ≤ length (now b) ⌝ }
-    ensures { λ _. ⌜ now (b .exit) ≡ written (now (b .entry)) at (planRecordBytes (slotRecord (asSlot s))) ⌝ }
-{
-    put_head(b, at, 0x53, s.fan, s.dose);
-    put_pair(b, at + 4, s.start_tick, s.start_part);
-    put_pair(b, at + 12, s.end_tick, s.end_part);
-    put_pair(b, at + 20, s.grams, s.time);
-    field::put8(b, at + 28, s.class);
-    field::put_blank(b, at + 29, 3);
 }
 
 // The slot from unit low up to unit high of a fan's stretch: "A moment is a tick plus part/W, part below W."

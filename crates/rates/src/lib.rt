@@ -1,5 +1,4 @@
 // W and P of the sets that the slots name, by the rule (document 01, "From doses to classes"), against the C records.
-use clauses::Class;
 use clauses::records::class_at;
 use clauses::small::both;
 use clauses::small::index;
@@ -8,6 +7,7 @@ use clauses::small::on;
 use clauses::small::product;
 use clauses::small::smaller;
 use clauses::small::wide;
+use plan_records::Class;
 ghost use mathlib.Core.Path.{_≡_};
 ghost use mathlib.Core.Bool.{_&&_};
 ghost use Prim.Native.Nat.{ℕ, _+_, _-_, _*_, _/_, _<_, _≤_};
@@ -15,7 +15,7 @@ ghost use lib.Dec.{leb};
 ghost use lib.ListN.{length, getD};
 ghost use Rattle.model.specs.Sets.{sum, weight};
 ghost use Rattle.model.specs.Sets as sets;
-ghost use Rattle.clauses.specs.Held.{asClass};
+ghost use Rattle.plan_records.specs.Held.{asClass};
 ghost use Rattle.clauses.specs.Tests.{Tells, ClassFits, Falls, setsOf, classIn, sheet, Says, Opens};
 
 // How many doses class i has.

@@ -1,8 +1,8 @@
 -- `class_in` meets its contract: the fields of a C record, each read at its place.
 use Rattle.model.specs.Records.{fieldsAt}
 use borrow.Author.Needs.{needs}
-use Rattle.clauses.proofs.records.class_in.Statement.{statement}
-use Rattle.clauses.proofs.records.class_in.Tie as tie
+use Rattle.plan_records.proofs.class_in.Statement.{statement}
+use Rattle.plan_records.proofs.class_in.Tie as tie
 
 read8-requires : tie.Need-read8-requires
 read8-requires c κs = search needs

@@ -2,8 +2,8 @@ use mathlib.Core.Path.{refl}
 use Rattle.field.proofs.Laws.{join}
 use Rattle.model.specs.Records.{numberBytes}
 use borrow.Author.Needs.{needs}
-use Rattle.layout.proofs.put_pair.Statement.{statement}
-use Rattle.layout.proofs.put_pair.Tie as tie
+use Rattle.plan_records.proofs.put_pair.Statement.{statement}
+use Rattle.plan_records.proofs.put_pair.Tie as tie
 
 put32-requires : tie.Need-put32-requires
 put32-requires c κs = search needs

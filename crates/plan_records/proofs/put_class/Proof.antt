@@ -3,8 +3,8 @@ use Rattle.field.proofs.Laws.{join}
 use Rattle.model.specs.Records.{numberBytes, recordBytes}
 use Rattle.model.specs.Plans.{planRecordBytes}
 use borrow.Author.Needs.{needs}
-use Rattle.layout.proofs.put_class.Statement.{statement}
-use Rattle.layout.proofs.put_class.Tie as tie
+use Rattle.plan_records.proofs.put_class.Statement.{statement}
+use Rattle.plan_records.proofs.put_class.Tie as tie
 
 put-head-requires : tie.Need-put-head-requires
 put-head-requires c κs = search needs

@@ -2,8 +2,8 @@ use mathlib.Core.Path.{refl}
 use Rattle.field.proofs.Laws.{join}
 use Rattle.model.specs.Records.{numberBytes}
 use borrow.Author.Needs.{needs}
-use Rattle.layout.proofs.put_head.Statement.{statement}
-use Rattle.layout.proofs.put_head.Tie as tie
+use Rattle.plan_records.proofs.put_head.Statement.{statement}
+use Rattle.plan_records.proofs.put_head.Tie as tie
 
 put8-requires : tie.Need-put8-requires
 put8-requires c κs = search needs

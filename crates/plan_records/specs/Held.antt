@@ -1,7 +1,7 @@
--- How the structs of `judge` hold the records of a plan.
+-- How the structs hold the records of a plan.
 use Rattle.model.specs.Plans as plans
-use Rattle.clauses.specs.declared.Class.{Class}
-use Rattle.clauses.specs.declared.Slot.{Slot}
+use Rattle.plan_records.specs.declared.Class.{Class}
+use Rattle.plan_records.specs.declared.Slot.{Slot}
 
 abbrev pub asClass : Class → plans.Class
 asClass c = record { number = c .number; doses = c .doses; grams = c .grams; time = c .time }

@@ -1,8 +1,8 @@
 -- `slot_in` meets its contract: the fields of an S record, each read at its place.
 use Rattle.model.specs.Records.{fieldsAt}
 use borrow.Author.Needs.{needs}
-use Rattle.clauses.proofs.records.slot_in.Statement.{statement}
-use Rattle.clauses.proofs.records.slot_in.Tie as tie
+use Rattle.plan_records.proofs.slot_in.Statement.{statement}
+use Rattle.plan_records.proofs.slot_in.Tie as tie
 
 read8-requires : tie.Need-read8-requires
 read8-requires c κs = search needs
