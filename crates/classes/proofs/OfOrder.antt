@@ -28,7 +28,7 @@ use Rattle.classes.specs.Sheet.{activeOf, settingFrom, Sheet}
 use Rattle.classes.specs.Phase.{classesIn, sharesIn, SoFar}
 use Rattle.classes.specs.Answer.{ClassesOf, SharesOf}
 use Rattle.classes.proofs.Same.{grams-same, fans-same, time-same, valid-same, free-same, classes-same}
-use Rattle.classes.proofs.OnePhase.{so-far-end}
+use Rattle.classes.proofs.OnePhase.{so-far-end, none-remains}
 
 -- arrays of n doses and J intervals that agree with the setting of an order
 record Agrees (o : model.Order) (active : List Bool) (lens grams : List ℕ) (n J : ℕ) : Type 0 where
@@ -54,11 +54,14 @@ module _ (o : model.Order) (active : List Bool) (lens grams : List ℕ) (fans : 
           (so-far-end _ _ active lens grams (λ j. fans) (a .few-doses) (a .few-intervals) t table shares so e);
       grams = λ i q. so .grams i q ∙ grams-same _ _ _ _ _ _ _ _ (a .actives) (a .spans) (a .weights) (fansPresent o) (fansPresent o) (λ j m. refl) (C i) (C i) (λ k m. refl);
       time = λ i q. so .time i q ∙ time-same _ _ _ _ _ _ _ _ (a .actives) (a .spans) (a .weights) _ _ (rows i) (C i) (C i) (λ k m. refl);
+      classed = e;
+      no-rest = λ k q. none-remains _ _ active lens grams (λ j. fans) (a .few-doses) (a .few-intervals) t table shares so e k q;
     },
     record {
       rows = λ i j q m. so .rows i j q m ∙ fans-same _ _ _ _ _ _ _ _ (a .actives) (a .spans) (a .weights) _ _ (rows i) (C i) (C i) (λ k m. refl) j m;
       valid = λ i q. valid-same _ _ _ _ _ _ _ _ (a .actives) (a .spans) (a .weights) _ _ (rows i) (C i) (C i) (λ k m. refl)
           (sharesIn t shares i) (sharesIn t shares i) (λ k j l m. refl) (so .valid i q);
+      past = so .past;
     },
   )
     where

@@ -6,10 +6,10 @@ use mathlib.Core.Path.{_≡_, refl, sym, ap, ap₂, _∙_, subst}
 use Prim.Native.Nat.{ℕ, zero, suc, _+_, _-_, _*_, _<_, _≤_}
 use native.Mathlib.Numerals.{add-one}
 use native.Mathlib.Omega.{arith}
-use borrow.Author.Tests.{eq-eqb}
+use borrow.Author.Tests.{eq-eqb, lt-ltb, le-ltb}
 use lib.Arith.{digits-div}
 use lib.Dec.{T, T-not, eqb, eqb→eq}
-use lib.ListN.{length, getD, replicate}
+use lib.ListN.{length, getD, replicate, getD-replicate}
 use Rattle.model.specs.Sets.{sum, on, Doses, Nonempty}
 use Rattle.model.specs.Classes.{Setting, Row, W, P, NextClass, Classes, classP, reserved, remaining, free, openFans}
 use Rattle.model.specs.Shares.{Valid}
@@ -20,7 +20,7 @@ use Rattle.share.specs.Share.{cell}
 use Rattle.classes.specs.declared.Tally.{Tally}
 use Rattle.classes.specs.Sheet.{setOf, activeOf, rowOf, settingFrom, choose}
 use Rattle.classes.specs.Round.{Measured, Chosen}
-use Rattle.classes.specs.Phase.{rowAt, classesIn, sharesIn, Reserved, After, KeptShares, SoFar}
+use Rattle.classes.specs.Phase.{rowAt, classesIn, sharesIn, Start, Blank, Reserved, After, KeptShares, Past, SoFar}
 use Rattle.classes.proofs.Same.{fans-same, time-same, valid-same, next-same}
 
 -- a set with a member has a size
@@ -36,15 +36,19 @@ remaining-not C (suc i) l k h t u = elim (last h) [
   | inr m ↦ remaining-not C i l k m (and-left (remaining C i k) (not (C i k)) t) u
 ]
 
-all-true : (n k : ℕ) → k < n → getD (replicate n true) k false ≡ true
-all-true zero k h = absurd (omega arith)
-all-true (suc n) zero h = refl
-all-true (suc n) (suc k) h = all-true n k (omega arith)
+all-same : {A : Type 0} (n i : ℕ) (a : A) → getD (replicate n a) i a ≡ a
+all-same zero i a = refl
+all-same (suc n) zero a = refl
+all-same (suc n) (suc i) a = all-same n i a
 
-all-none : (n k : ℕ) → k < n → _≡_ {A = ℕ} (getD (replicate n 24) k 0) 24
-all-none zero k h = absurd (omega arith)
-all-none (suc n) zero h = refl
-all-none (suc n) (suc k) h = all-none n k (omega arith)
+rows-same : (n i j : ℕ) → rowAt (replicate n (replicate 47 0)) i j ≡ 0
+rows-same zero i j = refl
+rows-same (suc n) zero j = all-same 47 j 0
+rows-same (suc n) (suc i) j = rows-same n i j
+
+-- at first nothing is reserved or given
+pub blank : Blank (replicate 24 (replicate 47 0)) (replicate 1128 0)
+blank = record { rows = rows-same 24; cells = λ i. all-same 1128 i 0 }
 
 all-remain : (C : ℕ → Doses) (k : ℕ) → remaining C 0 k ≡ true
 unfolding remaining
@@ -102,7 +106,8 @@ module _ (n J : ℕ) (active : List Bool) (lens grams : List ℕ) (F : Row) (few
 
       module _ (members : List Bool) (x reserved-fans : List ℕ) (w p : ℕ) (measured : Measured S (rowOf free-row) (setOf members) w p reserved-fans)
           (chosen : Chosen S (rowOf free-row) (setOf (t .remaining)) (setOf members) x) (t′ : Tally) (table′ : List (List ℕ)) (shares′ : List ℕ)
-          (after : After n members w p t t′) (row : Reserved i reserved-fans table table′) (kept : KeptShares members x shares shares′) where
+          (after : After n members w p t t′) (row : Reserved i reserved-fans table table′) (kept : KeptShares members x shares shares′)
+          (quiet : (k j : ℕ) → k < 24 → J ≤ j → j < 47 → activeOf active k j ≡ false) where
         abbrev C′ : ℕ → Doses
         C′ = classesIn t′
 
@@ -194,9 +199,12 @@ module _ (n J : ℕ) (active : List Bool) (lens grams : List ℕ) (F : Row) (few
             (λ u. so .later k l q (omega (arith, after .class)) h (rw (of-other k l q u) at v))
 
         -- the shares
+        cell-at : (k j : ℕ) → k < 24 → j < 47 → cell shares′ k j ≡ choose (A k) (cell x k j) (cell shares k j)
+        cell-at k j l q =
+            kept (k * 47 + j) (omega arith) ∙ ap (λ (d : ℕ). choose (getD members d false) (cell x k j) (cell shares k j)) (digits-div k q)
+
         share-at : (k j : ℕ) → k < n → j < J → cell shares′ k j ≡ choose (A k) (cell x k j) (cell shares k j)
-        share-at k j q m =
-            kept (k * 47 + j) (omega arith) ∙ ap (λ (d : ℕ). choose (getD members d false) (cell x k j) (cell shares k j)) (digits-div k (omega arith))
+        share-at k j q m = cell-at k j (omega arith) (omega arith)
 
         share-other : (k j : ℕ) → k < n → j < J → (T (A k) → ⊥) → cell shares′ k j ≡ cell shares k j
         share-other k j q m u = go (A k) u (share-at k j q m)
@@ -245,6 +253,31 @@ module _ (n J : ℕ) (active : List Bool) (lens grams : List ℕ) (F : Row) (few
               valid-as (free S F C l) (free S F C′ l) (λ j q. free′ l (omega arith) j) (C l) (C′ l) (alike-below l m) (sharesIn t shares l) (sharesIn t′ shares′ l)
               (λ k j q h. shares-below l k j m q h) (so .valid l m)
 
+        -- nothing stands past the doses, the intervals and the classes
+        not-past : (k : ℕ) → n ≤ k → k < 24 → A k ≡ false
+        not-past k g l = off (A k) (chosen .fewer k) (so .past .no-rest k g l)
+          where
+            off : (b : Bool) → (T b → T (setOf (t .remaining) k)) → setOf (t .remaining) k ≡ false → b ≡ false
+            off true f e = absurd (rw e at (f tt))
+            off false f e = refl
+
+        none-of : (b : Bool) {u v : ℕ} → u ≡ 0 → v ≡ 0 → choose b u v ≡ 0
+        none-of true e f = e
+        none-of false e f = f
+
+        past′ : Past n J t′ table′ shares′
+        past′ = record {
+          no-rest = λ k g l. after .remaining k l ∙ ap (λ (b : Bool). b && not (getD members k false)) (so .past .no-rest k g l);
+          no-number = λ k g l. after .numbers k l ∙ ap (λ (b : Bool). choose b i (getD (t .numbers) k 0)) (not-past k g l) ∙ so .past .no-number k g l;
+          no-grams = λ l g. after .other-grams l (λ e. omega (arith, after .class)) ∙ so .past .no-grams l (omega (arith, after .class));
+          no-time = λ l g. after .other-time l (λ e. omega (arith, after .class)) ∙ so .past .no-time l (omega (arith, after .class));
+          no-row = λ l j g. row .others l j (λ e. omega (arith, after .class)) ∙ so .past .no-row l j (omega (arith, after .class));
+          no-column = λ l j q g h. each-class (λ l. rowAt table′ l j ≡ 0) (row .own j h ∙ measured .no-fans j g h)
+              (λ l m. row .others l j (λ e. omega arith) ∙ so .past .no-column l j m g h) l q;
+          no-dose = λ k j g l q. cell-at k j l q ∙ ap (λ (b : Bool). choose b (cell x k j) (cell shares k j)) (not-past k g l) ∙ so .past .no-dose k j g l q;
+          no-interval = λ k j l g q. cell-at k j l q ∙ none-of (A k) (chosen .none k j l q (quiet k j l g q)) (so .past .no-interval k j l g q);
+        }
+
         pub so-far-next : SoFar S F t′ table′ shares′
         so-far-next = record {
           tall = row .tall;
@@ -262,24 +295,43 @@ module _ (n J : ℕ) (active : List Bool) (lens grams : List ℕ) (F : Row) (few
               (λ l h. row-below l h j m) l q;
           valid = each-class (λ l. Valid S (free S F C′ l) (C′ l) (sharesIn t′ shares′ l))
               (valid-as (rowOf free-row) (free S F C′ i) rows′ A (C′ i) alike-here (cell x) (sharesIn t′ shares′ i) shares-here (chosen .valid)) valid-below;
+          past = past′;
         }
 
   -- at first no class is found, and every dose remains
-  pub so-far-start : (t : Tally) (table : List (List ℕ)) (shares : List ℕ) → t .class ≡ 0 → t .classed ≡ 0 → t .remaining ≡ replicate 24 true
-      → t .numbers ≡ replicate 24 24 → length table ≡ 24 → SoFar S F t table shares
-  so-far-start t table shares c z r m h = record {
+  pub so-far-start : (t : Tally) (table : List (List ℕ)) (shares : List ℕ) → Start n t → length table ≡ 24 → Blank table shares → SoFar S F t table shares
+  so-far-start t table shares z h blank = record {
     tall = h;
-    found = subst (λ (i : ℕ). Found S F i (classesIn t)) (sym c) (found-none S F (classesIn t));
-    rest = λ k q. ap (λ (l : List Bool). getD l k false) r ∙ all-true 24 k (omega arith) ∙ sym (ap (λ (i : ℕ). remaining (classesIn t) i k) c ∙ all-remain (classesIn t) k);
-    counted = ap (λ (i : ℕ). size n (remaining (classesIn t) i) + t .classed) c ∙ omega (arith, weight-alike n (λ k. 1) (remaining (classesIn t) 0) (λ k. true) (λ k q. all-remain (classesIn t) k), size-all n);
-    each = omega arith;
-    later = λ k i q g l v. omega (arith, eqb→eq (getD (t .numbers) k 0) i v, ap (λ (l : List ℕ). getD l k 0) m, all-none 24 k (omega arith));
-    grams = λ i l. absurd (omega arith);
-    time = λ i l. absurd (omega arith);
-    rows = λ i j l. absurd (omega arith);
-    valid = λ i l. absurd (omega arith);
+    found = subst (λ (i : ℕ). Found S F i (classesIn t)) (sym (z .class)) (found-none S F (classesIn t));
+    rest = λ k q. z .remaining k (omega arith) ∙ lt-ltb k n q ∙ sym (ap (λ (i : ℕ). remaining (classesIn t) i k) (z .class) ∙ all-remain (classesIn t) k);
+    counted = ap (λ (i : ℕ). size n (remaining (classesIn t) i) + t .classed) (z .class)
+        ∙ omega (arith, z .classed, weight-alike n (λ k. 1) (remaining (classesIn t) 0) (λ k. true) (λ k q. all-remain (classesIn t) k), size-all n);
+    each = omega (arith, z .class);
+    later = λ k i q g l v. omega (arith, eqb→eq (getD (t .numbers) k 0) i v, ap (λ (l : List ℕ). getD l k 0) (z .numbers), getD-replicate {A = ℕ} 24 k 24 0 (omega arith));
+    grams = λ i l. absurd (omega (arith, z .class));
+    time = λ i l. absurd (omega (arith, z .class));
+    rows = λ i j l. absurd (omega (arith, z .class));
+    valid = λ i l. absurd (omega (arith, z .class));
+    past = record {
+      no-rest = λ k g l. z .remaining k l ∙ le-ltb k n g;
+      no-number = λ k g l. ap (λ (l : List ℕ). getD l k 0) (z .numbers) ∙ getD-replicate {A = ℕ} 24 k 24 0 l;
+      no-grams = λ i g. ap (λ (l : List ℕ). getD l i 0) (z .grams) ∙ all-same 24 i 0;
+      no-time = λ i g. ap (λ (l : List ℕ). getD l i 0) (z .time) ∙ all-same 24 i 0;
+      no-row = λ i j g. blank .rows i j;
+      no-column = λ i j l g h. blank .rows i j;
+      no-dose = λ k j g l q. blank .cells (k * 47 + j);
+      no-interval = λ k j l g q. blank .cells (k * 47 + j);
+    };
   }
 
   -- no dose remains: these are the classes
   pub so-far-end : (t : Tally) (table : List (List ℕ)) (shares : List ℕ) → SoFar S F t table shares → t .classed ≡ n → Classes S F (t .class) (classesIn t)
   so-far-end t table shares so e = found-all S F (t .class) (classesIn t) (so .found) (omega (arith, so .counted))
+
+  pub none-remains : (t : Tally) (table : List (List ℕ)) (shares : List ℕ) → SoFar S F t table shares → t .classed ≡ n → (k : ℕ) → k < n
+      → getD (t .remaining) k false ≡ false
+  none-remains t table shares so e k q = so .rest k q ∙ off (remaining (classesIn t) (t .class) k) (λ u. omega (arith, le-weight n (λ k. 1) (remaining (classesIn t) (t .class)) k q u, so .counted))
+    where
+      off : (b : Bool) → (T b → ⊥) → b ≡ false
+      off true f = absurd (f tt)
+      off false f = refl

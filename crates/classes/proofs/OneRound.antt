@@ -3,12 +3,14 @@
 use mathlib.Core.Bool.{Bool, true, false, _&&_}
 use mathlib.Core.List.{List}
 use mathlib.Core.Path.{_≡_, refl, sym, ap, _∙_, subst, fun-ext}
-use Prim.Native.Nat.{ℕ, _+_, _*_, _<_}
+use Prim.Native.Nat.{ℕ, _+_, _*_, _<_, _≤_}
 use native.Mathlib.Omega.{arith}
+use lib.Dec.{T}
 use lib.ListN.{getD}
 use Rattle.model.specs.Sets.{sum, on, weight, Doses, Nonempty}
 use Rattle.model.specs.Classes.{Setting, W, P, openFans}
 use Rattle.model.proofs.Sums.{sum-congr}
+use Rattle.model.proofs.Sets.{and-right, weight-congr, weight-scale}
 use Rattle.model.proofs.Rounds.{keeps-start}
 use Rattle.model.proofs.ValidShares.{valid-if-met}
 use Rattle.share.specs.Share.{cell, Raised, Met}
@@ -42,8 +44,14 @@ module _ (n J : ℕ) (active : List Bool) (lens grams free : List ℕ) (set : Li
   unfolding P
   time = hp ∙ sum-congr J (λ j l. ap (λ (y : ℕ). getD lens j 0 * y) (fans j l))
 
+  -- past the intervals no dose is active
+  none-active : (j : ℕ) → J ≤ j → j < 47 → weight n (λ k. on (activeOf active k j) 1) A ≡ 0
+  none-active j g q =
+      weight-congr n (λ k. on (activeOf active k j) 1) (λ k. 0) A (λ k l. ap (λ (b : Bool). on b 1) (sheet .no-interval k j (omega (arith, sheet .few-doses)) g q))
+      ∙ omega (arith, weight-scale n 0 (λ k. 1) A)
+
   pub measured : Measured S (rowOf free) A w p reserved
-  measured = record { grams = hw; time = time; fans = fans }
+  measured = record { grams = hw; time = time; fans = fans; no-fans = λ j g q. omega (arith, ho j q, none-active j g q) }
 
   module _ (rooms holds needs : List ℕ) (hr : Rooms active lens set w rooms) (hh : Holds lens reserved w holds) (hn : Needs grams set p needs) where
     -- a room by dose and interval
@@ -94,6 +102,8 @@ module _ (n J : ℕ) (active : List Bool) (lens grams free : List ℕ) (set : Li
         class = λ e rest z. bridge.found S (rowOf free) A rooms holds needs asked x s done (sheet .heavy) rest (z .within) (z .some) (z .keeps) r m e;
         onward = onward;
         lighter = lighter;
+        fewer = λ k u. and-right (getD s k false) (A k) (subst T (ht k) u);
+        none = λ k j hk hj e. omega (arith, done .within .bounded .roomy k j hk hj, no-room k j hk hj e);
       }
 
 -- all remaining doses are the first candidate

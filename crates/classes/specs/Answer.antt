@@ -12,18 +12,21 @@ use Rattle.model.specs.Intervals.{settingOf, fansPresent}
 use Rattle.model.specs.Answers.{Answer, ValidShares, FirstClass, aboveTop, tooFast}
 use Rattle.classes.specs.declared.Tally.{Tally}
 use Rattle.classes.specs.declared.TooFast.{TooFast}
-use Rattle.classes.specs.Phase.{rowAt, classesIn, sharesIn}
+use Rattle.classes.specs.Phase.{rowAt, classesIn, sharesIn, Past}
 
--- the tally has the order's classes, their W and P
+-- the tally has the order's classes, their W and P, and no dose remains
 pub record ClassesOf (o : Order) (t : Tally) : Type 0 where
   pub classes : Classes (settingOf o) (fansPresent o) (t .class) (classesIn t)
   pub grams : (i : ℕ) → i < t .class → getD (t .grams) i 0 ≡ W (settingOf o) (classesIn t i)
   pub time : (i : ℕ) → i < t .class → getD (t .time) i 0 ≡ classP (settingOf o) (fansPresent o) (classesIn t) i
+  pub classed : t .classed ≡ settingOf o .doses
+  pub no-rest : (k : ℕ) → k < settingOf o .doses → getD (t .remaining) k false ≡ false
 
--- a row of reserved fans for each class, and valid shares of every class
+-- a row of reserved fans for each class, and valid shares of every class; nothing past the doses, the intervals and the classes
 pub record SharesOf (o : Order) (t : Tally) (table : List (List ℕ)) (shares : List ℕ) : Type 0 where
   pub rows : (i j : ℕ) → i < t .class → j < settingOf o .intervals → rowAt table i j ≡ reserved (settingOf o) (fansPresent o) (classesIn t) i j
   pub valid : ValidShares o (t .class) (classesIn t) (sharesIn t shares)
+  pub past : Past (settingOf o .doses) (settingOf o .intervals) t table shares
 
 -- the first class is not above the top rate, or there is none: "Fields not meant are 0"
 abbrev pub notAbove : TooFast

@@ -4,8 +4,8 @@ use mathlib.Core.Bool.{Bool, false, not, _&&_}
 use mathlib.Core.Logic.{_≢_}
 use mathlib.Core.List.{List, []}
 use Prim.Native.Nat.{ℕ, _+_, _/_, _<_, _≤_}
-use lib.Dec.{T, eqb}
-use lib.ListN.{length, getD}
+use lib.Dec.{T, eqb, ltb}
+use lib.ListN.{length, getD, replicate}
 use Rattle.model.specs.Sets.{on, Doses}
 use Rattle.model.specs.Classes.{Setting, Row, W, classP, remaining, free}
 use Rattle.model.specs.Classes as classes
@@ -38,6 +38,20 @@ classesIn t = classOf (t .numbers)
 abbrev pub sharesIn : Tally → List ℕ → ℕ → ℕ → ℕ → ℕ
 sharesIn t shares i k j = on (classesIn t i k) (cell shares k j)
 
+-- the tally before the first phase: every dose remains
+pub record Start (n : ℕ) (t : Tally) : Type 0 where
+  pub class : t .class ≡ 0
+  pub classed : t .classed ≡ 0
+  pub remaining : (k : ℕ) → k < 24 → getD (t .remaining) k false ≡ ltb k n
+  pub numbers : t .numbers ≡ replicate 24 24
+  pub grams : t .grams ≡ replicate 24 0
+  pub time : t .time ≡ replicate 24 0
+
+-- no fan is reserved and no share is given
+pub record Blank (table : List (List ℕ)) (shares : List ℕ) : Type 0 where
+  pub rows : (i j : ℕ) → rowAt table i j ≡ 0
+  pub cells : (i : ℕ) → getD shares i 0 ≡ 0
+
 -- the tally with one class more: its doses, W and P
 pub record After (n : ℕ) (members : List Bool) (w p : ℕ) (t r : Tally) : Type 0 where
   pub class : r .class ≡ t .class + 1
@@ -53,6 +67,17 @@ pub record After (n : ℕ) (members : List Bool) (w p : ℕ) (t r : Tally) : Typ
 abbrev pub KeptShares : List Bool → List ℕ → List ℕ → List ℕ → Type 0
 KeptShares members x before after = (i : ℕ) → i < 1128 → getD after i 0 ≡ choose (getD members (i / 47) false) (getD x i 0) (getD before i 0)
 
+-- nothing stands past the doses, the intervals and the classes so far
+pub record Past (n J : ℕ) (t : Tally) (table : List (List ℕ)) (shares : List ℕ) : Type 0 where
+  pub no-rest : (k : ℕ) → n ≤ k → k < 24 → getD (t .remaining) k false ≡ false
+  pub no-number : (k : ℕ) → n ≤ k → k < 24 → getD (t .numbers) k 0 ≡ 24
+  pub no-grams : (i : ℕ) → t .class ≤ i → getD (t .grams) i 0 ≡ 0
+  pub no-time : (i : ℕ) → t .class ≤ i → getD (t .time) i 0 ≡ 0
+  pub no-row : (i j : ℕ) → t .class ≤ i → rowAt table i j ≡ 0
+  pub no-column : (i j : ℕ) → i < t .class → J ≤ j → j < 47 → rowAt table i j ≡ 0
+  pub no-dose : (k j : ℕ) → n ≤ k → k < 24 → j < 47 → cell shares k j ≡ 0
+  pub no-interval : (k j : ℕ) → k < 24 → J ≤ j → j < 47 → cell shares k j ≡ 0
+
 -- the tally so far, with the table of reservations and the shares of the classes that it has
 pub record SoFar (S : Setting) (F : Row) (t : Tally) (table : List (List ℕ)) (shares : List ℕ) : Type 0 where
   pub tall : length table ≡ 24
@@ -65,3 +90,4 @@ pub record SoFar (S : Setting) (F : Row) (t : Tally) (table : List (List ℕ)) (
   pub time : (i : ℕ) → i < t .class → getD (t .time) i 0 ≡ classP S F (classesIn t) i
   pub rows : (i j : ℕ) → i < t .class → j < S .intervals → rowAt table i j ≡ classes.reserved S F (classesIn t) i j
   pub valid : (i : ℕ) → i < t .class → Valid S (free S F (classesIn t) i) (classesIn t i) (sharesIn t shares i)
+  pub past : Past (S .doses) (S .intervals) t table shares

@@ -20,14 +20,15 @@ use table::reserve;
 use top::first_set;
 use top::not_above;
 ghost use mathlib.Core.Path.{_≡_};
-ghost use mathlib.Core.Bool.{false, true, not, _&&_};
+ghost use mathlib.Core.Bool.{false, not, _&&_};
 ghost use Prim.Native.Nat.{ℕ, _<_, _≤_};
-ghost use lib.ListN.{length, getD, replicate};
+ghost use lib.Dec.{ltb};
+ghost use lib.ListN.{length, getD};
 ghost use Rattle.model.proofs.Orders.{Fit};
 ghost use Rattle.order.specs.Held.{asOrder};
 ghost use Rattle.classes.specs.Sheet.{settingFrom, Sheet, choose};
 ghost use Rattle.classes.specs.Answer.{ClassesOf, SharesOf, AgainstTop};
-ghost use Rattle.classes.specs.Phase.{After, KeptShares, SoFar};
+ghost use Rattle.classes.specs.Phase.{Start, Blank, After, KeptShares, SoFar};
 
 fn without(a: bool, b: bool) -> bool
     ensures { λ r. ⌜ r ≡ (a && not b) ⌝ }
@@ -101,12 +102,27 @@ fn numbered(before: [u8; 24], members: [bool; 24], class: u8) -> [u8; 24]
     numbers
 }
 
+// At first every dose remains.
+fn every(doses: usize) -> [bool; 24]
+    requires { ⌜ doses ≤ 24 ⌝ }
+    ensures { λ r. ⌜ ((k : ℕ) → k < 24 → getD r k false ≡ ltb k doses) ⌝ }
+{
+    let mut all = [false; 24];
+    let mut k = 0;
+    while k < 24 {
+        all[k] = k < doses;
+        k += 1;
+    }
+    all
+}
+
 impl Tally {
-    pub fn start() -> Self
-        ensures { λ r. ⌜ (r .class ≡ 0) × (r .classed ≡ 0) × (r .remaining ≡ replicate 24 true) × (r .numbers ≡ replicate 24 24) ⌝ }
+    pub fn start(doses: usize) -> Self
+        requires { ⌜ doses ≤ 24 ⌝ }
+        ensures { λ r. ⌜ Start doses r ⌝ }
     {
         Tally {
-            remaining: [true; 24],
+            remaining: every(doses),
             class: 0,
             classed: 0,
             numbers: [24; 24],
@@ -191,10 +207,10 @@ fn phases(
     fans: u64,
     sequence: [usize; 24],
 ) -> Tally
-    requires { ⌜ (length (now shares) ≡ 1128) × (length (now table) ≡ 24) × Sheet doses intervals (now active) (now lens) (now grams) ⌝ }
+    requires { ⌜ (length (now shares) ≡ 1128) × (length (now table) ≡ 24) × Sheet doses intervals (now active) (now lens) (now grams) × Blank (now table) (now shares) ⌝ }
     ensures { λ r. ⌜ SoFar (settingFrom doses intervals (now (active .entry)) (now (lens .entry)) (now (grams .entry))) (λ j. fans) r (now (table .exit)) (now (shares .exit)) × (r .classed ≡ doses) ⌝ }
 {
-    let mut tally = Tally::start();
+    let mut tally = Tally::start(doses);
     while tally.classed < doses as u64 {
         tally = phase(
             shares,

@@ -1,6 +1,7 @@
 -- `classes_of` meets its contract: the arrays stand for the order (OfOrder).
 use mathlib.Core.Path.{refl}
 use borrow.Author.Needs.{needs}
+use Rattle.classes.proofs.OnePhase.{blank}
 use Rattle.classes.proofs.OfOrder.{few-doses, sheet, of-order}
 use Rattle.classes.proofs.classes_of.Statement.{statement}
 use Rattle.classes.proofs.classes_of.Tie as tie
@@ -29,7 +30,7 @@ cast-phases c = search needs
 phases-requires : tie.Need-phases-requires
 phases-requires c κs =
     let A = c .before .before .before .before .before .before .before .before .before .before .before .before .before .args in
-    (refl, refl, sheet (A .o) (c .before .before .before .before .before .before .before .before .before .before .before .before .before .pre) (c .before .before .before .before .before .before .before .before .before .before .before .before .instants-of .result) (c .before .before .before .before .before .before .before .before .before .before .before .before .instants-of .ensures) (c .before .before .before .before .before .before .before .before .before .before .before .interval-count .result) (c .before .before .before .before .before .before .before .before .before .before .before .interval-count .ensures) (c .before .before .before .before .before .before .before .before .before .before .active-in-order .result) (c .before .before .before .before .before .before .before .before .before .lens-in .result) (c .before .before .before .before .before .before .before .before .grams-in .result) (c .before .before .before .before .before .before .before .before .before .before .active-in-order .ensures) (c .before .before .before .before .before .before .before .before .before .lens-in .ensures .0) (c .before .before .before .before .before .before .before .before .before .lens-in .ensures .1) (c .before .before .before .before .before .before .before .before .grams-in .ensures .0) (c .before .before .before .before .before .before .before .before .grams-in .ensures .1))
+    (refl, refl, sheet (A .o) (c .before .before .before .before .before .before .before .before .before .before .before .before .before .pre) (c .before .before .before .before .before .before .before .before .before .before .before .before .instants-of .result) (c .before .before .before .before .before .before .before .before .before .before .before .before .instants-of .ensures) (c .before .before .before .before .before .before .before .before .before .before .before .interval-count .result) (c .before .before .before .before .before .before .before .before .before .before .before .interval-count .ensures) (c .before .before .before .before .before .before .before .before .before .before .active-in-order .result) (c .before .before .before .before .before .before .before .before .before .lens-in .result) (c .before .before .before .before .before .before .before .before .grams-in .result) (c .before .before .before .before .before .before .before .before .before .before .active-in-order .ensures) (c .before .before .before .before .before .before .before .before .before .lens-in .ensures .0) (c .before .before .before .before .before .before .before .before .before .lens-in .ensures .1) (c .before .before .before .before .before .before .before .before .grams-in .ensures .0) (c .before .before .before .before .before .before .before .before .grams-in .ensures .1), blank)
 
 returns : tie.Need-returns
 returns c =

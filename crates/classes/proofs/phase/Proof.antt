@@ -41,7 +41,7 @@ returns c =
     let next = c .before .before .before .before .before .before .before .before .before .before .before .next-class .ensures in
     let after = c .after .ensures in (
       so-far-next (A .doses) (A .intervals) (A .active .now) (A .lens .now) (A .grams .now) (λ j. A .fans) (sheet .few-doses) (sheet .few-intervals) (A .tally) _ _ (c .before .before .before .before .before .before .before .before .before .before .before .before .before .before .before .before .before .pre .2) (c .before .before .before .before .before .before .before .before .before .before .before .before .before .before .before .before .before .pre .3)
-          (c .before .before .before .before .before .before .before .before .before .before .before .before .before .before .free-fans .result) (c .before .before .before .before .before .before .before .before .before .before .before .before .before .before .free-fans .ensures) (c .before .before .before .before .before .before .before .before .before .before .before .next-class .result .members) _ (c .before .before .before .before .before .before .before .before .before .before .before .next-class .result .reserved) _ _ (next .0) (next .2) (c .after .result) _ _ after (c .before .before .before .before .before .before .before .reserve .ensures) (c .before .before .before .keep-shares .ensures),
+          (c .before .before .before .before .before .before .before .before .before .before .before .before .before .before .free-fans .result) (c .before .before .before .before .before .before .before .before .before .before .before .before .before .before .free-fans .ensures) (c .before .before .before .before .before .before .before .before .before .before .before .next-class .result .members) _ (c .before .before .before .before .before .before .before .before .before .before .before .next-class .result .reserved) _ _ (next .0) (next .2) (c .after .result) _ _ after (c .before .before .before .before .before .before .before .reserve .ensures) (c .before .before .before .keep-shares .ensures) (sheet .no-interval),
       omega (arith, after .classed, some-size (A .doses) (setOf (c .before .before .before .before .before .before .before .before .before .before .before .next-class .result .members)) (next .2 .next .some)),
     )
 

@@ -24,7 +24,7 @@ loop-holds c =
     let A = c .before .before .args in
     let sheet = c .before .before .pre .2 in
     let z = c .start .ensures in
-    (c .before .before .pre .0, omega (arith, z .1), so-far-start (A .doses) (A .intervals) (A .active .now) (A .lens .now) (A .grams .now) (λ j. A .fans) (sheet .few-doses) (sheet .few-intervals) _ _ _ (z .0) (z .1) (z .2) (z .3) (c .before .before .pre .1))
+    (c .before .before .pre .0, omega (arith, z .classed), so-far-start (A .doses) (A .intervals) (A .active .now) (A .lens .now) (A .grams .now) (λ j. A .fans) (sheet .few-doses) (sheet .few-intervals) _ _ _ z (c .before .before .pre .1) (c .before .before .pre .3))
 
 phase-requires : tie.Need-phase-requires Inv-loop μ-loop
 phase-requires c κs = (c .before .before .before .before .loop .inv .0, c .before .before .before .before .before .before .before .pre .2, c .before .before .before .before .loop .inv .2, c .before .before .if1 .taken)
