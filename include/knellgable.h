@@ -2,7 +2,7 @@
  *
  * The four functions of libknellgable.a. An order is any bytes, and so is a plan: the caller checks nothing beforehand, and every call gets
  * one answer. Each function reads only the bytes it is lent, keeps none of them, allocates nothing and holds no state: calls on different
- * memory may run at the same time.
+ * memory may run at the same time. A length of 0 may come with any pointer.
  *
  * Records are 32 bytes, numbers least significant byte first, bytes not named zero:
  *   F 0x46  1 fans; 4-7 top grams; 8-11 top seconds
