@@ -185,7 +185,7 @@ fn page(count: usize) -> String {
     text += "\n## Asked and measured\n\nReading the bytes is taken as judging them: a point checks 2 to 10 first, by its definition. Where a plan falls, judging computes the \
 classes, to tell 9 from 10.\n\n";
     asked(&mut text, &figures(&last, used));
-    text += "\n## Random cases\n\nThe last lines of `second compare`, kept in `second/long-run.txt`:\n\n";
+    text += "\n## Random cases\n\nThe last lines of `second compare` and of `tests/sanitized`, kept in `second/long-run.txt`:\n\n";
     match std::fs::read_to_string(LONG_RUNS) {
         Ok(runs) => runs.lines().for_each(|line| writeln!(text, "- {line}").unwrap()),
         Err(_) => text += "- none yet\n",
