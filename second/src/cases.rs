@@ -48,15 +48,25 @@ pub fn one_bay(windows: &[Window]) -> Order {
 
 const P2_PRINT: &str = "class 1 3 30 6\nslot 1 0 0 0 2 0 1\nslot 1 1 2 0 3 0 1\nslot 2 1 0 0 1 0 1\nslot 2 2 1 0 3 0 1\ntotal 1 4\n";
 
+/// P1 to P12 by name.
+pub fn examples() -> Vec<(&'static str, Vec<u8>)> {
+    let p4 = order(1, TOP, &[(0, 2, 4), (2, 4, 4)]);
+    let list = [p1(TOP), p2(), p3(), p4, p5(), p6(), p1((4, 1)), p1((3, 1)), p9(), order(3, TOP, &[])];
+    let names = ["p1", "p2", "p3", "p4", "p5", "p6", "p7", "p8", "p9", "p10"];
+    let mut named: Vec<_> = names.into_iter().zip(list.iter().map(|o| write(o, 0))).collect();
+    named.push(("p11", Vec::new()));
+    named.push(("p12", write(&one_bay(&[(0, 4, 10), (4, 8, 10)]), 0)));
+    named.push(("p12-overlap", write(&one_bay(&[(0, 4, 10), (3, 8, 10)]), 0)));
+    named
+}
+
 /// The examples' orders and the samples, as the first cases of every comparison.
 pub fn fixed() -> Vec<Vec<u8>> {
-    let mut list = vec![p1(TOP), p2(), p3(), order(1, TOP, &[(0, 2, 4), (2, 4, 4)]), p5(), p6(), p1((4, 1)), p1((3, 1)), p9()];
-    list.extend([order(3, TOP, &[]), order(1, TOP, &[(0, 4, 0)])]);
-    list.extend([order(1, TOP, &[(0, 4, 1_000_001)]), order(1, TOP, &[(0, 4, 1); 25])]);
+    let mut list = vec![order(1, TOP, &[(0, 4, 0)]), order(1, TOP, &[(0, 4, 1_000_001)]), order(1, TOP, &[(0, 4, 1); 25])];
     // Two rates that differ by 1 part in 3 x 10^11.
     list.push(order(2, TOP, &[(0, 604_800, 604_799), (0, 604_799, 604_798)]));
-    let mut bytes: Vec<Vec<u8>> = list.iter().map(|o| write(o, 0)).collect();
-    bytes.extend([Vec::new(), write(&one_bay(&[(0, 4, 10), (4, 8, 10)]), 0), write(&one_bay(&[(0, 4, 10), (3, 8, 10)]), 0)]);
+    let mut bytes: Vec<Vec<u8>> = examples().into_iter().map(|(_, b)| b).collect();
+    bytes.splice(10..10, list.iter().map(|o| write(o, 0)));
     bytes.extend(crate::samples::all().into_iter().map(|(_, b)| b));
     bytes
 }

@@ -1,6 +1,6 @@
 //! The sample orders.
 
-use crate::cases::p2;
+use crate::cases::{examples, p2};
 use crate::orders::{write, Dose, Order};
 use std::path::Path;
 
@@ -49,12 +49,17 @@ pub fn all() -> Vec<(&'static str, Vec<u8>)> {
     vec![("p2", write(&p2(), 0)), ("house", write(&house(), 0)), ("fast", write(&fast, 0)), ("damaged", damaged), ("hard", HARD.to_vec())]
 }
 
-/// Writes NAME.order for each sample; the texts beside them are the printer's own.
+fn put(folder: &Path, name: &str, bytes: &[u8]) -> bool {
+    let file = folder.join(format!("{name}.order"));
+    let written = std::fs::write(&file, bytes);
+    println!("{}: {}", file.display(), written.as_ref().map_or_else(ToString::to_string, |()| format!("{} bytes", bytes.len())));
+    written.is_ok()
+}
+
+/// Writes NAME.order for each sample, and in cases/ for P1 to P12; the texts beside them are the printer's own.
 pub fn make(folder: &str) -> bool {
-    all().into_iter().all(|(name, bytes)| {
-        let file = Path::new(folder).join(format!("{name}.order"));
-        let written = std::fs::write(&file, &bytes);
-        println!("{}: {}", file.display(), written.as_ref().map_or_else(ToString::to_string, |()| format!("{} bytes", bytes.len())));
-        written.is_ok()
-    })
+    let (samples, cases) = (Path::new(folder), Path::new(folder).join("cases"));
+    std::fs::create_dir_all(&cases).is_ok()
+        && all().iter().all(|(name, bytes)| put(samples, name, bytes))
+        && examples().iter().all(|(name, bytes)| put(&cases, name, bytes))
 }
