@@ -183,7 +183,7 @@ fn page(count: usize) -> String {
     text += &STACKS.replace("STACKED", &STACK_ORDERS.to_string());
     let used = stack_table(&mut text, &mut r);
     text += "\n## Asked and measured\n\nReading the bytes is taken as judging them: a point checks 2 to 10 first, by its definition. Where a plan falls, judging computes the \
-classes, to tell 9 from 10.\n\n";
+classes, to tell 9 from 10. What another reading would miss stands in `docs/DECISIONS.md`.\n\n";
     asked(&mut text, &figures(&last, used));
     text += "\n## Random cases\n\nThe last lines of `second compare` and of `tests/sanitized`, kept in `second/long-run.txt`:\n\n";
     match std::fs::read_to_string(LONG_RUNS) {
