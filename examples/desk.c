@@ -68,7 +68,7 @@ static int refused(uint32_t number, size_t place, uint64_t set, uint64_t grams, 
     return 1;
 }
 
-/* The plan of an order into a file, or for judging and drawing without one. */
+/* The planner's own plan of an order, in memory that is the caller's to free. */
 static int plan(struct bytes order, struct bytes *made)
 {
     made->at = malloc(KNELLGABLE_PLAN_ROOM);
@@ -79,11 +79,8 @@ static int plan(struct bytes order, struct bytes *made)
     return p.number == 0 ? 0 : refused(p.number, p.place, p.set, p.grams, p.time);
 }
 
-static int write_plan(struct bytes order, const char *name)
+static int write_file(struct bytes made, const char *name)
 {
-    struct bytes made;
-    if (plan(order, &made) != 0)
-        return 1;
     FILE *to = fopen(name, "wb");
     if (!to || fwrite(made.at, 1, made.count, to) != made.count || fclose(to) != 0)
         leave("can't write ", name);
@@ -144,20 +141,21 @@ static size_t dose_in(const char *text)
 int main(int count, char **words)
 {
     const char *verb = count > 1 ? words[1] : "";
-    int drawing = strcmp(verb, "draw") == 0;
-    if (count < 3 + drawing || count > 4 + drawing)
+    int planning = strcmp(verb, "plan") == 0, drawing = strcmp(verb, "draw") == 0;
+    if (count < 3 + planning + drawing || count > 4 + drawing)
         leave("use: plan ORDER PLAN, judge ORDER [PLAN], draw ORDER DOSE [PLAN]", "");
-    struct bytes order = read_file(words[2]), given;
+    if (!planning && !drawing && strcmp(verb, "judge") != 0)
+        leave("no such command: ", verb);
     size_t dose = drawing ? dose_in(words[3]) : 0;
-    if (strcmp(verb, "plan") == 0 && count == 4)
-        return write_plan(order, words[3]);
-    if (count == 4 + drawing)
+    struct bytes order = read_file(words[2]), given = {NULL, 0};
+    int status = 0;
+    if (!planning && count == 4 + drawing)
         given = read_file(words[3 + drawing]);
-    else if (plan(order, &given) != 0)
-        return 1;
-    if (drawing)
-        return draw(order, given, dose);
-    if (strcmp(verb, "judge") == 0)
-        return judge(order, given);
-    leave("no such command: ", verb);
+    else
+        status = plan(order, &given);
+    if (status == 0)
+        status = planning ? write_file(given, words[3]) : drawing ? draw(order, given, dose) : judge(order, given);
+    free(given.at);
+    free(order.at);
+    return status;
 }

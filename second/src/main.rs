@@ -48,7 +48,8 @@ const USE: &str = "use: second self [cases] [seed]
      second case FILE [PLAN FILE]
      second plan FILE
      second bench [orders] [FILE]
-     second make-samples DIR";
+     second make-samples DIR
+     second make-cases DIR [cases] [seed]";
 
 /// The peer that `cases` and `compare` ask: the proved library if it is linked.
 #[cfg(feature = "library")]
@@ -99,6 +100,7 @@ fn main() -> ExitCode {
         }
         Some("bench") => page::run(number(&args, 1, 100) as usize, args.get(2).map(String::as_str)),
         Some("make-samples") => samples::make(args.get(1).map_or(".", String::as_str)),
+        Some("make-cases") => samples::make_cases(args.get(1).map_or(".", String::as_str), number(&args, 2, 1_000), number(&args, 3, 1)),
         _ => {
             eprintln!("{USE}");
             return ExitCode::from(2);

@@ -1,7 +1,11 @@
 //! The sample orders.
 
+use crate::answers::accept;
 use crate::cases::{examples, p2};
+use crate::compare::order_of;
 use crate::orders::{write, Dose, Order};
+use crate::random::Random;
+use crate::variants::{damage, standing};
 use std::path::Path;
 
 const HARD: &[u8] = include_bytes!("../../samples/hard.order");
@@ -62,4 +66,26 @@ pub fn make(folder: &str) -> bool {
     std::fs::create_dir_all(&cases).is_ok()
         && all().iter().all(|(name, bytes)| put(samples, name, bytes))
         && examples().iter().all(|(name, bytes)| put(&cases, name, bytes))
+}
+
+/// A plan for an order: one that stands or a damaged one, and for a refused order no bytes.
+fn plan_for(order: &[u8], r: &mut Random) -> Vec<u8> {
+    let plan = accept(order).map_or_else(|_| Vec::new(), |house| standing(&house, r));
+    if r.once_in(2) {
+        damage(&plan, r)
+    } else {
+        plan
+    }
+}
+
+/// Writes the orders of a seed's first cases as 0.order, 1.order and so on, each with a plan for it as 0.plan, 1.plan and so on.
+pub fn make_cases(folder: &str, cases: u64, seed: u64) -> bool {
+    let write_case = |number: u64| {
+        let mut r = Random::of_case(seed, number);
+        let order = order_of(number, &mut r);
+        let plan = plan_for(&order, &mut r);
+        let file = |end: &str| Path::new(folder).join(format!("{number}.{end}"));
+        std::fs::write(file("order"), order).is_ok() && std::fs::write(file("plan"), plan).is_ok()
+    };
+    std::fs::create_dir_all(folder).is_ok() && (0..cases).all(write_case)
 }
