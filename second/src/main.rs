@@ -47,6 +47,7 @@ const USE: &str = "use: second self [cases] [seed]
      second errors [cases] [seed]           (built with --features errors)
      second case FILE [PLAN FILE]
      second plan FILE
+     second classes FILE
      second bench [orders] [FILE]
      second make-samples DIR
      second make-cases DIR [cases] [seed]";
@@ -96,6 +97,10 @@ fn main() -> ExitCode {
         }
         Some("plan") => {
             print!("{}", printer::plan(&file(&args, 1)));
+            true
+        }
+        Some("classes") => {
+            print!("{}", printer::classes(&file(&args, 1)));
             true
         }
         Some("bench") => page::run(number(&args, 1, 100) as usize, args.get(2).map(String::as_str)),

@@ -37,6 +37,14 @@ pub fn lines(house: &House, slots: &[Slot]) -> String {
     text
 }
 
+/// The classes of an order, each as a set with its W and P, or its refusal.
+pub fn classes(order: &[u8]) -> String {
+    match accept(order) {
+        Err(j) => refusal(&j),
+        Ok(house) => house.classes.iter().map(|c| format!("class {} {} {}\n", c.set, c.grams, c.time)).collect(),
+    }
+}
+
 /// Doses, classes and the plan's verdict, in words.
 pub fn case(order: &[u8], plan: Option<&[u8]>) {
     println!("{} bytes of order", order.len());

@@ -1,6 +1,4 @@
-pub mod Loops
-pub mod OneRound
-pub mod Same
+pub mod Rows
 pub mod OnePhase
 pub mod OfOrder
 pub mod OverTop

@@ -15,13 +15,15 @@ use Rattle.model.specs.Classes.{Setting, Row, W, P, NextClass, Classes, classP,
 use Rattle.model.specs.Shares.{Valid}
 use Rattle.model.proofs.Sums.{last, sum-congr}
 use Rattle.model.proofs.Sets.{Alike, _∩_, and-left, and-right, and-both, same-test, on-yes, size, size-all, le-weight, weight-pos, weight-part, weight-alike}
+use Rattle.model.proofs.Same.{agree-refl, fans-same, time-same, valid-same, next-same}
 use Rattle.model.proofs.Sequence.{Found, found-none, found-more, found-all, remaining-alike, free-alike}
-use Rattle.share.specs.Share.{cell}
+use Rattle.chains.specs.Chains.{cell}
+use Rattle.sheet.specs.Sheet.{setOf, activeOf, rowOf, settingFrom}
+use Rattle.sheet.proofs.Laws.{all-same}
+use Rattle.measure.specs.Measure.{Measured}
+use Rattle.rounds.specs.Rounds.{Chosen}
 use Rattle.classes.specs.declared.Tally.{Tally}
-use Rattle.classes.specs.Sheet.{setOf, activeOf, rowOf, settingFrom, choose}
-use Rattle.classes.specs.Round.{Measured, Chosen}
-use Rattle.classes.specs.Phase.{rowAt, classesIn, sharesIn, Start, Blank, Reserved, After, KeptShares, Past, SoFar}
-use Rattle.classes.proofs.Same.{fans-same, time-same, valid-same, next-same}
+use Rattle.classes.specs.Phase.{choose, rowAt, classesIn, sharesIn, Start, Blank, Reserved, After, KeptShares, Past, SoFar}
 
 -- a set with a member has a size
 pub some-size : (n : ℕ) (A : Doses) → Nonempty n A → 1 ≤ size n A
@@ -35,11 +37,6 @@ remaining-not C (suc i) l k h t u = elim (last h) [
   | inl e ↦ T-not (C i k) (and-right (remaining C i k) (not (C i k)) t) (rw e at u)
   | inr m ↦ remaining-not C i l k m (and-left (remaining C i k) (not (C i k)) t) u
 ]
-
-all-same : {A : Type 0} (n i : ℕ) (a : A) → getD (replicate n a) i a ≡ a
-all-same zero i a = refl
-all-same (suc n) zero a = refl
-all-same (suc n) (suc i) a = all-same n i a
 
 rows-same : (n i j : ℕ) → rowAt (replicate n (replicate 47 0)) i j ≡ 0
 rows-same zero i j = refl
@@ -71,17 +68,17 @@ module _ (n J : ℕ) (active : List Bool) (lens grams : List ℕ) (F : Row) (few
   -- the laws of `Same`, for one setting and other fans
   module _ (row row′ : Row) (er : (j : ℕ) → j < J → row j ≡ row′ j) where
     next-as : (rest rest′ A A′ : Doses) → Alike n rest rest′ → Alike n A A′ → NextClass S row rest A → NextClass S row′ rest′ A′
-    next-as = next-same n J _ _ _ _ _ _ (λ k j q m. refl) (λ j q. refl) (λ k q. refl) row row′ er
+    next-as = next-same S S (agree-refl S) row row′ er
 
     module _ (A A′ : Doses) (eA : Alike n A A′) where
       time-as : P S row A ≡ P S row′ A′
-      time-as = time-same n J _ _ _ _ _ _ (λ k j q m. refl) (λ j q. refl) (λ k q. refl) row row′ er A A′ eA
+      time-as = time-same S S (agree-refl S) row row′ er A A′ eA
 
       fans-as : (j : ℕ) → j < J → openFans S row A j ≡ openFans S row′ A′ j
-      fans-as = fans-same n J _ _ _ _ _ _ (λ k j q m. refl) (λ j q. refl) (λ k q. refl) row row′ er A A′ eA
+      fans-as = fans-same S S (agree-refl S) row row′ er A A′ eA
 
       valid-as : (x x′ : ℕ → ℕ → ℕ) → ((k j : ℕ) → k < n → j < J → x k j ≡ x′ k j) → Valid S row A x → Valid S row′ A′ x′
-      valid-as = valid-same n J _ _ _ _ _ _ (λ k j q m. refl) (λ j q. refl) (λ k q. refl) row row′ er A A′ eA
+      valid-as = valid-same S S (agree-refl S) row row′ er A A′ eA
 
   module _ (t : Tally) (table : List (List ℕ)) (shares : List ℕ) (so : SoFar S F t table shares) (less : t .classed < n) where
     abbrev i : ℕ

@@ -1,4 +1,2 @@
-pub mod Sheet
-pub mod Round
 pub mod Phase
 pub mod Answer

@@ -1,6 +1,6 @@
 -- The phases, one for each class.
 use mathlib.Core.Path.{_≡_}
-use mathlib.Core.Bool.{Bool, false, not, _&&_}
+use mathlib.Core.Bool.{Bool, true, false, not, _&&_}
 use mathlib.Core.Logic.{_≢_}
 use mathlib.Core.List.{List, []}
 use Prim.Native.Nat.{ℕ, _+_, _/_, _<_, _≤_}
@@ -12,9 +12,14 @@ use Rattle.model.specs.Classes as classes
 use Rattle.model.specs.Shares.{Valid}
 use Rattle.model.proofs.Sets.{size}
 use Rattle.model.proofs.Sequence.{Found}
-use Rattle.share.specs.Share.{cell}
-use Rattle.classes.specs.Sheet.{setOf, choose}
+use Rattle.chains.specs.Chains.{cell}
+use Rattle.sheet.specs.Sheet.{setOf}
 use Rattle.classes.specs.declared.Tally.{Tally}
+
+-- a where the test holds, and b where not
+abbrev pub choose : {A : Type 0} → Bool → A → A → A
+choose true a b = a
+choose false a b = b
 
 -- the fans that class i reserves in interval j
 abbrev pub rowAt : List (List ℕ) → ℕ → ℕ → ℕ

@@ -1,20 +1,19 @@
 // The rate classes of an order and their shares (document 01, "From doses to classes"). Doses and intervals stand in arrays: dose k is
 // active in interval j at k * 47 + j, and nothing stands past the doses and the intervals.
-mod measure; // measure.rt: W, P and open fans of a set
-mod round; // round.rt: the next class
-mod sheet; // sheet.rt: an order in arrays
+mod sequence; // sequence.rt: which dose is filled first
 mod table; // table.rt: reservations
 mod top; // top.rt: refusal 9
 
 use measure::size_of;
 use order::Order;
-use round::next_class;
+use rounds::Class;
+use rounds::next_class;
+use sequence::by_deadline;
 use sheet::active_in_order;
-use sheet::by_deadline;
 use sheet::grams_in;
-use sheet::interval_count;
 use sheet::lens_in;
-use sheet::wide;
+use steps::wide;
+use steps::without;
 use table::free_fans;
 use table::reserve;
 use top::first_set;
@@ -26,15 +25,9 @@ ghost use lib.Dec.{ltb};
 ghost use lib.ListN.{length, getD};
 ghost use Rattle.model.proofs.Orders.{Fit};
 ghost use Rattle.order.specs.Held.{asOrder};
-ghost use Rattle.classes.specs.Sheet.{settingFrom, Sheet, choose};
+ghost use Rattle.sheet.specs.Sheet.{settingFrom, Sheet};
 ghost use Rattle.classes.specs.Answer.{ClassesOf, SharesOf, AgainstTop};
-ghost use Rattle.classes.specs.Phase.{Start, Blank, After, KeptShares, SoFar};
-
-fn without(a: bool, b: bool) -> bool
-    ensures { λ r. ⌜ r ≡ (a && not b) ⌝ }
-{
-    if a { !b } else { false }
-}
+ghost use Rattle.classes.specs.Phase.{choose, Start, Blank, After, KeptShares, SoFar};
 
 fn choose_share(test: bool, a: u64, b: u64) -> u64
     ensures { λ r. ⌜ r ≡ choose test a b ⌝ }
@@ -46,14 +39,6 @@ fn choose_number(test: bool, a: u8, b: u8) -> u8
     ensures { λ r. ⌜ r ≡ choose test a b ⌝ }
 {
     if test { a } else { b }
-}
-
-// The next class: its doses, W and P, and the fans that it reserves.
-pub struct Class {
-    pub members: [bool; 24],
-    pub grams: u64,
-    pub time: u64,
-    pub reserved: [u64; 47],
 }
 
 // The shares of the class's doses are kept; those of other doses stay.
@@ -244,7 +229,7 @@ pub fn classes_of(o: Order, shares: &mut [u64; 1128], table: &mut [[u8; 47]; 24]
     let doses = o.count;
     let fans = o.fans;
     let instants = interval::instants_of(o);
-    let intervals = interval_count(instants);
+    let intervals = interval::interval_count(instants);
     let active = active_in_order(o, instants, intervals);
     let lens = lens_in(instants);
     let grams = grams_in(o);

@@ -1,23 +1,13 @@
 // The table of reservations: "a row per class and a column per interval".
+use steps::less;
+use steps::of_byte;
+use steps::wide;
 ghost use mathlib.Core.Path.{_≡_};
 ghost use Prim.Native.Nat.{ℕ, _-_, _<_, _≤_};
 ghost use lib.ListN.{length, getD};
 ghost use Rattle.model.specs.Sets.{sum};
-ghost use Rattle.classes.specs.Sheet.{Below};
+ghost use Rattle.sheet.specs.Sheet.{Below};
 ghost use Rattle.classes.specs.Phase.{rowAt, Reserved};
-
-// a - b, or 0.
-fn less(a: u64, b: u64) -> u64
-    ensures { λ r. ⌜ r ≡ a - b ⌝ }
-{
-    if a < b { 0 } else { a - b }
-}
-
-fn wide(x: u8) -> u64
-    ensures { λ r. ⌜ (r ≡ x) × (r ≤ 255) ⌝ }
-{
-    x as u64
-}
 
 // The fans that the first classes reserve in interval j.
 fn reserved_before(table: &[[u8; 47]; 24], classes: usize, j: usize) -> u64
@@ -27,7 +17,7 @@ fn reserved_before(table: &[[u8; 47]; 24], classes: usize, j: usize) -> u64
     let mut sum: u64 = 0;
     let mut i = 0;
     while i < classes {
-        sum += wide(table[i][j]);
+        sum += wide(of_byte(table[i][j]));
         i += 1;
     }
     sum

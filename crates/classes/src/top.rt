@@ -1,9 +1,9 @@
 // Refusal 9: "first class: W × top seconds above P × top grams".
 use crate::TooFast;
-use crate::measure::on;
+use steps::on;
 ghost use mathlib.Core.Path.{_≡_};
 ghost use mathlib.Core.Bool.{false};
-ghost use Prim.Native.Nat.{ℕ, _≤_};
+ghost use Prim.Native.Nat.{_≤_};
 ghost use Rattle.model.specs.Classes.{setNumber};
 ghost use Rattle.classes.specs.Phase.{classOf};
 ghost use Rattle.classes.specs.Answer.{notAbove};

@@ -2,14 +2,13 @@
 use mathlib.Core.Path.{_≡_, _∙_, ap, refl, sym}
 use mathlib.Core.Bool.{Bool, true, false, not, _&&_}
 use mathlib.Core.List.{List}
-use Prim.Native.Nat.{ℕ, _+_, _-_, _*_, _/_, _<_, _≤_}
-use native.Mathlib.Nat.{mul-le-mul-left, mul-le-mul-right}
+use Prim.Native.Nat.{ℕ, _*_, _<_, _≤_}
 use native.Mathlib.Omega.{arith}
 use borrow.Author.Tests.{eqb-true, eqb-false, leb-true, leb-false, ltb-true, ltb-false, not-true, not-false}
 use lib.Dec.{eqb, leb, ltb}
-use lib.ListN.{drop, getD, length, length-drop, length-take, take}
+use lib.ListN.{drop, getD}
 use lib.Seq.{getD-drop, getD-take}
-use Rattle.model.specs.Records.{blankAt, classParts, numberAt, recordAt, slotParts}
+use Rattle.model.specs.Records.{blankAt, classParts, numberAt, slotParts}
 use Rattle.clauses.specs.Tests.{ClassRow, SlotRow, Tells, kindAt}
 
 module _ {P : Type 0} where
@@ -76,21 +75,6 @@ tells-slot r t k e = record {
   no = λ n h. let z : false ≡ true = sym n ∙ e ∙ sym (slot-blank r) ∙ h .blank in let w : _≡_ {A = ℕ} 0 1 = cc in omega arith;
 }
 
--- the part of the bytes that is record i
-pub record-part : (b : List ℕ) (i : ℕ) → take (32 * i + 32 - 32 * i) (drop (32 * i) b) ≡ recordAt b i
-record-part b i = let e : 32 * i + 32 - 32 * i ≡ 32 = omega arith in rw e
-
-pub record-length : (b : List ℕ) (i : ℕ) → i < length b / 32 → length (take (32 * i + 32 - 32 * i) (drop (32 * i) b)) ≡ 32
-record-length b i l = omega (arith, length-take (32 * i + 32 - 32 * i) (drop (32 * i) b), length-drop (32 * i) b)
-
--- and its kind
+-- the kind of record i
 pub kind-at : (b : List ℕ) (i : ℕ) → kindAt b i ≡ getD b (32 * i) 0
 kind-at b i = getD-take 32 (drop (32 * i) b) 0 0 (omega arith) ∙ getD-drop (32 * i) b 0 0 ∙ ap (λ (x : ℕ). getD b x 0) (omega arith)
-
--- ---- products of fields fit 64 bits
-
-pub product-fits : (a b c : ℕ) → a < 4294967296 → b < 4294967296 → c < 4294967296 → a * b + c < 18446744073709551616
-product-fits a b c ha hb hc =
-    let x : a ≤ 4294967295 = omega arith in
-    let y : b ≤ 4294967295 = omega arith in
-    omega (arith, mul-le-mul-left a y, mul-le-mul-right 4294967295 x)

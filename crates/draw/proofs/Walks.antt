@@ -3,12 +3,11 @@ use mathlib.Core.Path.{_≡_, refl, sym, ap, _∙_}
 use mathlib.Core.Bool.{Bool, true, false, _&&_}
 use mathlib.Core.List.{List, [], _∷_}
 use Prim.Native.Nat.{ℕ, zero, suc, _+_, _*_, _-_, _/_, _%_, _<_, _≤_, min}
-use native.Mathlib.Nat.{mul-le-mul-left, mul-le-mul-right}
 use native.Mathlib.Numerals.{add-one}
 use native.Mathlib.Omega.{arith}
 use borrow.Author.Tests.{eqb-true}
 use lib.Dec.{eqb, leb, ltb}
-use lib.ListN.{length, getD, take, drop}
+use lib.ListN.{length, getD}
 use Rattle.model.specs.Sets.{on}
 use Rattle.model.specs.Lists.{total}
 use Rattle.model.specs.Records.{pick, read, refused, blankAt, classParts, slotParts, recordAt, readFrom, readAll, numberAt, fieldsAt}
@@ -16,16 +15,8 @@ use Rattle.model.specs.Plans.{Slot, PlanRecord, classRecord, slotRecord, classO
 use Rattle.model.specs.Stands.{starts, ends}
 use Rattle.model.specs.Line.{State, dosing, idle, unitsBefore, timeOf, fedAt}
 use Rattle.model.proofs.Orders.{no-refusal, passed, went-on}
-use Rattle.order.proofs.Walks.{record-part}
+use Rattle.field.proofs.Records.{partAt, record-part}
 use Rattle.draw.specs.Drawing.{ownSlot, unitsIn, feedsAt, Drawable}
-
--- the part of the bytes that is handed on for record k
-abbrev partAt : List ℕ → ℕ → List ℕ
-partAt b k = take (32 * k + 32 - 32 * k) (drop (32 * k) b)
-
--- two numbers of 4 bytes
-pub product-most : (a b : ℕ) → a < 4294967296 → b < 4294967296 → a * b ≤ 18446744065119617025
-product-most a b h g = omega (arith, mul-le-mul-left {m = b} {n = 4294967295} a (omega arith), mul-le-mul-right {m = a} {n = 4294967295} 4294967295 (omega arith))
 
 module _ {A : Type 0} (step : Slot → A → A) (end : A) where
   -- the slots of a list, each taken by `step`, the last first

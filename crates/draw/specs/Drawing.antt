@@ -8,11 +8,10 @@ use lib.ListN.{getD}
 use Rattle.model.specs.Sets.{on}
 use Rattle.model.specs.Records.{read}
 use Rattle.model.specs.Plans.{PlanRecord, slotOf, slotsIn, planRecords}
-use Rattle.model.specs.Stands.{starts, ends}
+use Rattle.model.specs.Stands.{starts, ends, Stands}
 use Rattle.model.specs.Line.{finished, shut, idle, dosing, unitsBefore, timeOf}
 use Rattle.model.specs.Line as line
 use Rattle.model.specs.Orders.{Order}
-use Rattle.model.specs.Stands.{Stands}
 use Rattle.model.specs.Answers.{Answer, Accepts}
 use Rattle.model.specs.Answers as answers
 use Rattle.draw.specs.declared.State.{State}

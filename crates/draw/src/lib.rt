@@ -12,6 +12,9 @@ ghost use Rattle.judge.specs.Verdict.{asAnswer};
 ghost use Rattle.draw.specs.Drawing.{asState, asPoint, asDrawn, answerOf, asPen, penAt, ownSlot, unitsIn, feedsAt, Drawable, Sound};
 use judge::Judged;
 use order::Order;
+use plan_records::moment;
+use steps::product;
+use steps::wide;
 
 // "one of four states"; "Dosing carries the fan number"
 pub enum State {
@@ -49,35 +52,28 @@ pub struct Moved {
     pub drawn: Drawn,
 }
 
-fn wide(x: u32) -> u64
-    ensures { λ r. ⌜ (r ≡ x) × (r < 4294967296) ⌝ }
-{
-    x as u64
-}
-
 // The moment at a place of an S record, in units of 1/W tick: "A moment is a tick plus part/W".
-fn moment(r: &[u8], at: usize) -> u64
+fn moment_at(r: &[u8], at: usize) -> u64
     requires { ⌜ (length (now r) ≡ 32) × (at ≤ 16) ⌝ }
     ensures { λ m. ⌜ m ≡ numberAt (now (r .entry)) at 4 * numberAt (now (r .entry)) 20 4 + numberAt (now (r .entry)) (at + 4) 4 ⌝ }
 {
-    let tick = wide(field::read32(r, at));
-    let part = wide(field::read32(r, at + 4));
-    let w = wide(field::read32(r, 20));
-    tick * w + part
+    let tick = field::read32(r, at);
+    let part = field::read32(r, at + 4);
+    moment(tick, part, field::read32(r, 20))
 }
 
 fn slot_start(r: &[u8]) -> u64
     requires { ⌜ length (now r) ≡ 32 ⌝ }
     ensures { λ m. ⌜ m ≡ starts (slotOf (now (r .entry))) ⌝ }
 {
-    moment(r, 4)
+    moment_at(r, 4)
 }
 
 fn slot_end(r: &[u8]) -> u64
     requires { ⌜ length (now r) ≡ 32 ⌝ }
     ensures { λ m. ⌜ m ≡ ends (slotOf (now (r .entry))) ⌝ }
 {
-    moment(r, 12)
+    moment_at(r, 12)
 }
 
 // A tick in units of the slot's 1/W tick.
@@ -85,9 +81,7 @@ fn units_to(r: &[u8], tick: u32) -> u64
     requires { ⌜ length (now r) ≡ 32 ⌝ }
     ensures { λ m. ⌜ m ≡ tick * slotOf (now (r .entry)) .grams ⌝ }
 {
-    let t = wide(tick);
-    let w = wide(field::read32(r, 20));
-    t * w
+    product(tick, field::read32(r, 20))
 }
 
 // The units from a slot's start to its end that lie before a moment.
@@ -229,10 +223,7 @@ fn point_of(o: Order, plan: &[u8], dose: usize, tick: u32) -> Point
     let time = wide(time_of(plan, dose));
     let amount = (units / time) as u32;
     let state = state_of(o, plan, dose, tick);
-    Point {
-        amount: amount,
-        state: state,
-    }
+    Point { amount, state }
 }
 
 // No point comes with a refusal.
@@ -240,11 +231,11 @@ fn no_point(number: u32, place: usize, set: u64, grams: u64, time: u64) -> Drawn
     ensures { λ d. ⌜ asDrawn d ≡ noPoint (answerOf number place set grams time) ⌝ }
 {
     Drawn {
-        number: number,
-        place: place,
-        set: set,
-        grams: grams,
-        time: time,
+        number,
+        place,
+        set,
+        grams,
+        time,
         point: Point {
             amount: 0,
             state: State::Shut,
@@ -318,10 +309,7 @@ pub fn move_on(order: &[u8], plan: &[u8], dose: usize, tick: u32) -> Moved
     let next = next_tick(tick);
     let d = point_at(order, plan, dose, next);
     if d.number != 0 {
-        return Moved {
-            tick: tick,
-            drawn: d,
-        };
+        return Moved { tick, drawn: d };
     }
     Moved {
         tick: next,

@@ -1,4 +1,5 @@
 // Numbers and zeros in the bytes of a record (document 01, "Records": "numbers least significant byte first").
+use steps::of_byte;
 ghost use mathlib.Core.Path.{_≡_};
 ghost use Prim.Native.Nat.{_+_, _<_, _≤_};
 ghost use lib.Dec.{eqb};
@@ -6,18 +7,12 @@ ghost use lib.ListN.{length, replicate};
 ghost use Rattle.model.specs.Records.{numberAt, numberBytes};
 ghost use Rattle.field.specs.Written.{written};
 
-fn wide(x: u8) -> u32
-    ensures { λ r. ⌜ (r ≡ x) × (r < 256) ⌝ }
-{
-    x as u32
-}
-
 // The number in the byte at a place.
 pub fn read8(s: &[u8], at: usize) -> u32
     requires { ⌜ at + 1 ≤ length (now s) ⌝ }
     ensures { λ r. ⌜ (r ≡ numberAt (now (s .entry)) at 1) × (r < 256) ⌝ }
 {
-    wide(s[at])
+    of_byte(s[at])
 }
 
 // The number in the two bytes from a place on.
@@ -25,7 +20,7 @@ pub fn read16(s: &[u8], at: usize) -> u32
     requires { ⌜ at + 2 ≤ length (now s) ⌝ }
     ensures { λ r. ⌜ (r ≡ numberAt (now (s .entry)) at 2) × (r < 65536) ⌝ }
 {
-    wide(s[at]) + 256 * wide(s[at + 1])
+    of_byte(s[at]) + 256 * of_byte(s[at + 1])
 }
 
 // The number in the four bytes from a place on.
@@ -33,7 +28,10 @@ pub fn read32(s: &[u8], at: usize) -> u32
     requires { ⌜ at + 4 ≤ length (now s) ⌝ }
     ensures { λ r. ⌜ (r ≡ numberAt (now (s .entry)) at 4) × (r < 4294967296) ⌝ }
 {
-    wide(s[at]) + 256 * wide(s[at + 1]) + 65536 * wide(s[at + 2]) + 16777216 * wide(s[at + 3])
+    of_byte(s[at])
+        + 256 * of_byte(s[at + 1])
+        + 65536 * of_byte(s[at + 2])
+        + 16777216 * of_byte(s[at + 3])
 }
 
 // Whether `count` bytes from a place on are zero: "Bytes not named must be zero."

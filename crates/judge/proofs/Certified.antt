@@ -8,7 +8,7 @@ use native.Mathlib.Nat.{add-zero, mul-lt-mul-of-pos-left}
 use native.Mathlib.Numerals.{add-one}
 use native.Mathlib.Omega.{arith}
 use borrow.Author.Tests.{ne-eqb}
-use lib.Dec.{T, T-not, eqb, eqb→eq, eqb-refl}
+use lib.Dec.{T, T-not, eqb→eq, eqb-refl}
 use lib.ListN.{getD, length}
 use Rattle.model.specs.Sets.{Doses, sum}
 use Rattle.model.specs.Lists.{All, Pairs, total}

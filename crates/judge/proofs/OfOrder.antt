@@ -1,16 +1,15 @@
 -- The arrays of an order, and what the tests over them tell of the order.
 use mathlib.Core.Bool.{Bool, true}
 use mathlib.Core.List.{List}
-use mathlib.Core.Path.{_≡_, refl, sym, ap, _∙_}
+use mathlib.Core.Path.{_≡_, sym, ap, _∙_}
 use Prim.Native.Nat.{ℕ, _*_, _-_, _/_, _<_, _≤_}
-use native.Mathlib.Nat.{zero-add}
 use native.Mathlib.Omega.{arith}
 use borrow.Author.Tests.{eq-eqb, ne-eqb}
 use lib.Dec.{T, ltb→lt, lt→ltb}
 use lib.ListN.{length}
 use Rattle.model.specs.Sets.{Doses}
 use Rattle.model.specs.Records.{read, refused}
-use Rattle.model.specs.Orders.{noDose, doseAt, readOrder}
+use Rattle.model.specs.Orders.{readOrder}
 use Rattle.model.specs.Orders as model
 use Rattle.model.specs.Intervals.{fansPresent, settingOf}
 use Rattle.model.specs.Classes.{P, W, free, remaining, setNumber}
@@ -22,8 +21,8 @@ use Rattle.model.proofs.FanTime.{P-alike}
 use Rattle.model.proofs.NextClass.{next-unique}
 use Rattle.order.specs.declared.Order.{Order}
 use Rattle.order.specs.declared.Reading.{Reading}
-use Rattle.order.specs.Held.{ReadFrom, asOrder, doseHeld, dosesFrom}
-use Rattle.order.proofs.Columns.{run-at, run-length}
+use Rattle.order.specs.Held.{ReadFrom, asOrder}
+use Rattle.order.proofs.Fields.{doses-is, fans-is, top-grams-is, top-seconds-is, dose-is}
 use Rattle.interval.specs.declared.Instants.{Instants}
 use Rattle.interval.specs.Held.{InstantsOf}
 use Rattle.interval.proofs.Laws.{count-is, instant-is}
@@ -35,40 +34,16 @@ use Rattle.judge.proofs.Certified.{passes-classes, passes-stands}
 use Rattle.judge.proofs.Complete.{stands-passes}
 
 module _ (o : Order) where
-  pub doses-is : o .count ≡ length (asOrder o .doses)
-  unfolding asOrder dosesFrom
-  doses-is = sym (run-length (doseHeld o) 0 (o .count))
-
-  fans-is : o .fans ≡ asOrder o .fans
-  unfolding asOrder
-  fans-is = refl
-
-  pub top-grams-is : o .«top_grams» ≡ asOrder o .topGrams
-  unfolding asOrder
-  top-grams-is = refl
-
-  pub top-seconds-is : o .«top_seconds» ≡ asOrder o .topSeconds
-  unfolding asOrder
-  top-seconds-is = refl
-
-  dose-is : (k : ℕ) → k < o .count → doseHeld o k ≡ doseAt (asOrder o) k
-  unfolding asOrder dosesFrom
-  dose-is k h = sym (run-at (doseHeld o) 0 (o .count) k noDose h ∙ ap (doseHeld o) (zero-add k))
-
-  -- an order that fits has few doses
-  pub few-doses : Fit (asOrder o) → o .count ≤ 24
-  few-doses fit = omega (arith, fit .few, doses-is)
-
   -- its arrays hold it
   pub holds : (s : Instants) → InstantsOf o s → (J : ℕ) → J ≡ s .count - 1
       → SheetOf (asOrder o) (sheet (o .count) J (o .fans) (o .release) (o .deadline) (o .grams) (s .at))
   holds s of J e = record {
-    doses = doses-is;
+    doses = doses-is o;
     intervals = e ∙ ap (λ (n : ℕ). n - 1) (count-is o s of);
-    fans = fans-is;
-    release = λ k l. ap (λ (d : model.Dose). d .release) (dose-is k l);
-    deadline = λ k l. ap (λ (d : model.Dose). d .deadline) (dose-is k l);
-    grams = λ k l. ap (λ (d : model.Dose). d .grams) (dose-is k l);
+    fans = fans-is o;
+    release = λ k l. ap (λ (d : model.Dose). d .release) (dose-is o k l);
+    deadline = λ k l. ap (λ (d : model.Dose). d .deadline) (dose-is o k l);
+    grams = λ k l. ap (λ (d : model.Dose). d .grams) (dose-is o k l);
     instants = λ j l. instant-is o s of j;
   }
 

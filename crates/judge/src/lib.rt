@@ -4,8 +4,7 @@ mod top; // top.rt: refusal 9
 
 use clauses::records;
 use order::Order;
-ghost use Prim.Native.Nat.{_-_, _/_, _≤_};
-ghost use mathlib.Core.Path.{_≡_};
+ghost use Prim.Native.Nat.{_/_, _≤_};
 ghost use lib.ListN.{length};
 ghost use Rattle.model.proofs.Orders.{Fit};
 ghost use Rattle.model.specs.Answers.{Judges};
@@ -142,20 +141,13 @@ fn find(
     }
 }
 
-// Instants "bound the intervals".
-fn intervals_in(instants: usize) -> usize
-    ensures { λ r. ⌜ r ≡ instants - 1 ⌝ }
-{
-    if instants == 0 { 0 } else { instants - 1 }
-}
-
 // Whether plan bytes stand for an order: "no share is raised", and the cost grows with the plan's length.
 fn certify(o: Order, plan: &[u8]) -> Found
     requires { ⌜ Fit (asOrder o) ⌝ }
     ensures { λ r. ⌜ Certifies (asOrder o) (now (plan .entry)) (r .stands) (r .classes) (r .numbers) ⌝ }
 {
     let s = interval::instants_of(o);
-    let intervals = intervals_in(s.count);
+    let intervals = interval::interval_count(s);
     let release = o.release;
     let deadline = o.deadline;
     let grams = o.grams;

@@ -1,6 +1,6 @@
 // The class number of each dose, as the plan's own slots name it.
 use clauses::records::slot_at;
-use clauses::small::index;
+use steps::index;
 ghost use mathlib.Core.Path.{_≡_};
 ghost use mathlib.Core.Logic.{_≢_};
 ghost use Prim.Native.Nat.{ℕ, _/_, _<_, _≤_};

@@ -1,10 +1,10 @@
 // Refusal 9: "first class: W × top seconds above P × top grams".
 use crate::Judged;
 use clauses::records::class_at;
-use clauses::small::on;
-use clauses::small::product;
-use clauses::small::wide;
 use order::Order;
+use steps::on;
+use steps::product;
+use steps::wide;
 ghost use mathlib.Core.Path.{_≡_};
 ghost use Prim.Native.Nat.{_≤_};
 ghost use Rattle.model.proofs.Orders.{Fit};

@@ -1,6 +1,7 @@
 // Slots laid by wrap-around into a lent buffer (document 01, "From classes to slots").
 use plan_records::Slot;
 use plan_records::put_slot;
+use steps::of_byte;
 ghost use mathlib.Core.Path.{_≡_};
 ghost use mathlib.Core.List.{map};
 ghost use Prim.Native.Nat.{_+_, _*_, _<_, _≤_};
@@ -127,12 +128,6 @@ fn lane_of(t: Tables, i: usize, j: usize, below: u32) -> Lane
     }
 }
 
-fn wide(x: u8) -> u32
-    ensures { λ r. ⌜ (r ≡ x) × (r < 256) ⌝ }
-{
-    x as u32
-}
-
 // The records of interval j: "class 1 takes the lowest fans, class 2 the next, and so on".
 fn lay_interval(
     b: &mut [u8],
@@ -150,7 +145,7 @@ fn lay_interval(
     let mut i = 0;
     while i < t.classes {
         at = lay_class(b, at, lane_of(t, i, j, below), t, shares, i, j);
-        below += wide(reserved[i][j]);
+        below += of_byte(reserved[i][j]);
         i += 1;
     }
     at

@@ -1,22 +1,22 @@
 -- Answers are settled: refusals of an order, verdicts, points and pens are unique, and two plannings agree on all but the shares' choice.
 use mathlib.Core.Path.{_≡_, refl, sym, ap, ap₂, subst, fun-ext, _∙_}
 use mathlib.Core.Bool.{Bool, true, false, _&&_}
-use mathlib.Core.Logic.{_≢_, _⊎_, inl, inr}
+use mathlib.Core.Logic.{_≢_}
 use mathlib.Core.List.{List, [], _∷_, _++_, map, append-assoc}
-use Prim.Native.Nat.{ℕ, zero, suc, _+_, _*_, _/_, _%_, _≤_, _<_, _^_}
+use Prim.Native.Nat.{ℕ, zero, suc, _+_, _*_, _/_, _%_, _<_, _^_}
 use native.Mathlib.Omega.{arith}
 use lib.Dec.{T, eqb, leb}
 use lib.ListN.{length, getD, drop}
 use Rattle.model.specs.Sets.{Doses}
 use Rattle.model.specs.Records.{Reading, read, refused, pick, andThen, readFrom, readAll, recordAt, fansParts, doseParts, blankAt}
-use Rattle.model.specs.Orders.{Order, Dose, Entry, fansEntry, doseEntry, fansOf, doseOf, fansFit, doseFits, checked, entryOf, fansIn, dosesIn, clashesAny, noClash, orderWith, orderOf, readOrder}
+use Rattle.model.specs.Orders.{Order, Dose, Entry, fansEntry, doseEntry, fansOf, doseOf, fansFit, doseFits, checked, entryOf, fansIn, dosesIn, clashesAny, noClash, orderOf, readOrder}
 use Rattle.model.specs.Lists.{gather}
 use Rattle.model.specs.Classes.{Setting, Row, P, Classes, free, reserved, classP}
 use Rattle.model.specs.Plans.{Class, Slot, classRecord, slotRecord, planOf, recordsBytes}
 use Rattle.model.specs.Layout.{Piece, Lane, cut, line, pieceSlot, laneSlots, lane, intervalSlots, tableSlots, tableOf, slotsOf, classAt, classesOf}
 use Rattle.model.specs.Intervals.{instantAt, settingOf, fansPresent}
 use Rattle.model.specs.Stands.{Stands}
-use Rattle.model.specs.Answers.{Answer, refusal, done, FirstClass, aboveTop, tooFast, Refuses, unread, above, Accepts, Planned, Plans, Judges, Drawn, noPoint, pointOf, Draws, Pen, Moves, planRoom, overwritten, planBytes}
+use Rattle.model.specs.Answers.{Answer, refusal, FirstClass, aboveTop, tooFast, Refuses, unread, above, Accepts, Planned, Plans, Judges, Drawn, noPoint, pointOf, Draws, Pen, Moves, overwritten, planBytes}
 use Rattle.model.proofs.Sets.{Alike, weight-alike}
 use Rattle.model.proofs.Sums.{sum-congr}
 use Rattle.model.proofs.FanTime.{P-alike, openFans-alike}

@@ -1,25 +1,24 @@
 -- What the tests of CaseTests show: of numbers and sets, of the next class, of shares, of equality. Assumes nothing.
-use mathlib.Core.Path.{_≡_, refl, sym, ap, ap₂, _∙_}
+use mathlib.Core.Path.{_≡_, refl, sym, ap, ap₂}
 use mathlib.Core.Bool.{Bool, true, false, not, _&&_, _||_}
 use mathlib.Core.Logic.{_⊎_, inl, inr}
 use mathlib.Core.List.{List, [], _∷_}
-use Prim.Native.Nat.{ℕ, zero, suc, _+_, _*_, _≤_, _<_}
+use Prim.Native.Nat.{ℕ, zero, suc, _<_}
 use native.Mathlib.Nat.{le-of-suc-le-suc}
 use native.Mathlib.Omega.{arith}
 use lib.Dec.{T, T-not, not-T, eqb, leb, eqb→eq, leb→le}
-use lib.ListN.{length, getD}
 use Rattle.model.specs.Sets.{Doses, Sub, Nonempty}
-use Rattle.model.specs.Classes.{Setting, Row, W, P, noDenser, asDense, NextClass}
+use Rattle.model.specs.Classes.{Setting, Row, noDenser, asDense, NextClass}
 use Rattle.model.specs.Shares.{Valid, room, holds, need, got, given}
 use Rattle.model.proofs.Sums.{last}
-use Rattle.model.proofs.Sets.{Alike, alike, alike-sub, alike-back, and-left, and-right, and-both, or-left, or-right, or-elim, weight-alike}
+use Rattle.model.proofs.Sets.{Alike, alike-sub, alike-back, and-left, and-right, and-both, weight-alike}
 use Rattle.model.proofs.FanTime.{P-alike}
 use Rattle.model.proofs.NextClass.{next-transport}
 use Rattle.model.specs.Plans.{Class, Slot}
 use Rattle.model.specs.Line.{State, finished, shut, idle, dosing, Point}
 use Rattle.model.specs.Answers.{Answer}
 use Rattle.model.proofs.Orders.{three, four}
-use Rattle.model.specs.CaseTests.{allBelow, allIn, everySet, marked, insideTest, someTest, givesWay, nextTest, aloneTest, roomTest, fullTest, metTest, validTest, sameList, sameClass, sameSlot, sameState, samePoint, sameAnswer, emptyList}
+use Rattle.model.specs.CaseTests.{allBelow, everySet, marked, insideTest, someTest, givesWay, nextTest, aloneTest, roomTest, fullTest, metTest, validTest, sameList, sameClass, sameSlot, sameState, samePoint, sameAnswer, emptyList}
 
 -- ---- what the tests of all members show
 

@@ -1,11 +1,10 @@
 -- The table of cases: a row that passes the computed test is right by the definitions, and every row passes. Assumes nothing.
 use mathlib.Core.Path.{_≡_, refl, sym, ap, ap₂, _∙_}
-use mathlib.Core.Bool.{Bool, true, false, not, _&&_, _||_}
-use mathlib.Core.Logic.{_≢_, _⊎_, inl, inr}
+use mathlib.Core.Bool.{Bool, true, false, not, _&&_}
 use mathlib.Core.List.{List, [], _∷_}
-use Prim.Native.Nat.{ℕ, zero, suc, _+_, _≤_, _<_}
+use Prim.Native.Nat.{ℕ, suc, _≤_, _<_}
 use native.Mathlib.Omega.{arith}
-use lib.Dec.{T, T-not, eqb, leb, eqb→eq, leb→le, eqb-refl}
+use lib.Dec.{T, T-not, eqb, leb, eqb→eq, leb→le}
 use lib.ListN.{length}
 use Rattle.model.specs.Sets.{Doses, Sub}
 use Rattle.model.specs.Lists.{All, none, also}
@@ -17,7 +16,7 @@ use Rattle.model.specs.Plans.{Class, Slot, recordsBytes, planOf, slotsRe
 use Rattle.model.specs.Layout.{slotsOf, classAt, classesOf}
 use Rattle.model.specs.Line.{pointAt}
 use Rattle.model.specs.Stands.{Stands}
-use Rattle.model.specs.Answers.{Answer, refusal, done, aboveTop, tooFast, FirstClass, Refuses, unread, above, Accepts, ValidShares, planBytes, planRoom, overwritten, Plans, Judges, Draws, Moves, pointOf, week}
+use Rattle.model.specs.Answers.{Answer, refusal, done, aboveTop, tooFast, FirstClass, Refuses, unread, above, Accepts, ValidShares, planBytes, planRoom, overwritten, Plans, Judges, Draws, Moves, week}
 use Rattle.model.specs.Cases.{Case, Drawing, DrawingRight, Right, caseSets, casePlan, cases}
 use Rattle.model.proofs.Sets.{and-left, and-right, or-elim, alike, weight-alike}
 use Rattle.model.proofs.FanTime.{P-alike}

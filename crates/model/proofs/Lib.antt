@@ -3,6 +3,7 @@ pub mod Sets
 pub mod Fractions
 pub mod FanTime
 pub mod NextClass
+pub mod Same
 pub mod Chains
 pub mod Rounds
 pub mod Sequence

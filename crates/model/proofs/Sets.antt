@@ -54,9 +54,9 @@ pub on-times : (a : Bool) (x : ℕ) → on a x ≡ x * on a 1
 on-times true x = omega arith
 on-times false x = omega arith
 
-on-and : (a b : Bool) → on a (on b 1) ≡ on (a && b) 1
-on-and true b = refl
-on-and false b = refl
+pub on-and : (a b : Bool) (x : ℕ) → on a (on b x) ≡ on (a && b) x
+on-and true b x = refl
+on-and false b x = refl
 
 on-sum : (a : Bool) (m : ℕ) (f : ℕ → ℕ) → on a (sum m f) ≡ sum m (λ j. on a (f j))
 on-sum true m f = refl
@@ -193,7 +193,7 @@ module _ (n : ℕ) where
   -- members that pass a test are counted as the members of a part
   pub weight-and : (B A : Doses) → weight n (λ k. on (B k) 1) A ≡ weight n (λ k. 1) (λ k. A k && B k)
   unfolding weight
-  weight-and B A = sum-congr n (λ k l. on-and (A k) (B k))
+  weight-and B A = sum-congr n (λ k l. on-and (A k) (B k) 1)
 
   -- equal weights
   pub weight-congr : (v w : ℕ → ℕ) (A : Doses) → ((k : ℕ) → k < n → v k ≡ w k) → weight n v A ≡ weight n w A

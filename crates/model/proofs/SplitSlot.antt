@@ -7,7 +7,7 @@ use Prim.Native.Nat.{ℕ, zero, suc, _*_, _≤_, _<_}
 use native.Mathlib.Omega.{arith}
 use lib.Dec.{T}
 use Rattle.model.specs.Sets.{Doses, sum, weight}
-use Rattle.model.specs.Lists.{total, All, none, also, Pairs, lone, then}
+use Rattle.model.specs.Lists.{total, none, also, Pairs, lone, then}
 use Rattle.model.specs.Orders.{Order, doseAt}
 use Rattle.model.specs.Classes.{P, openFans, free, classP}
 use Rattle.model.specs.Intervals.{insert, instants, settingOf, fansPresent}

@@ -3,7 +3,7 @@ use mathlib.Core.Path.{_≡_}
 use mathlib.Core.Bool.{Bool, true}
 use mathlib.Core.Logic.{_≢_}
 use mathlib.Core.List.{List, _++_}
-use Prim.Native.Nat.{ℕ, zero, suc, _+_, _*_, _≤_, _<_}
+use Prim.Native.Nat.{ℕ, _+_, _*_, _≤_, _<_}
 use lib.Dec.{T, ltb}
 use lib.ListN.{length, drop}
 use Rattle.model.specs.Sets.{Doses}
@@ -15,7 +15,7 @@ use Rattle.model.specs.Shares.{Valid}
 use Rattle.model.specs.Plans.{planOf, planRecords, recordsBytes, slotsRead}
 use Rattle.model.specs.Layout.{slotsOf, classesOf}
 use Rattle.model.specs.Stands.{Stands}
-use Rattle.model.specs.Line.{State, shut, Point, pointAt}
+use Rattle.model.specs.Line.{shut, Point, pointAt}
 
 -- number and place; "refusal 9 returns the first class as a number with bit i for dose i, its W and P"; "Fields not meant are 0"
 pub record Answer : Type 0 where

@@ -1,14 +1,13 @@
 -- The rows of the table pass a test that is computed; that a row which passes is right is proved (proofs/Cases).
 use mathlib.Core.Bool.{Bool, true, false, not, _&&_, _||_}
 use mathlib.Core.List.{List, [], _∷_}
-use mathlib.Core.Path.{_≡_, refl}
-use Prim.Native.Nat.{ℕ, zero, suc, _*_}
+use Prim.Native.Nat.{ℕ, zero, suc}
 use lib.Dec.{T, eqb, leb}
 use lib.ListN.{length, getD}
-use Rattle.model.specs.Sets.{sum, on, Doses, weight}
+use Rattle.model.specs.Sets.{sum, Doses, weight}
 use Rattle.model.specs.Records.{Reading, read, refused, pick, numberAt, numberBytes, fieldsAt, blankAt, recordBytes, readFrom}
 use Rattle.model.specs.Orders.{Order, entryOf, fansIn, dosesIn, clashesAny, noClash, orderOf, readOrder}
-use Rattle.model.specs.Classes.{Setting, Row, noDenser, asDense, openFans, P, free, remaining, W}
+use Rattle.model.specs.Classes.{Setting, Row, noDenser, asDense, openFans, P, free, remaining}
 use Rattle.model.specs.Intervals.{insert, instants, settingOf, fansPresent}
 use Rattle.model.specs.Shares.{need, room, holds, got, given}
 use Rattle.model.specs.Lists.{gather, total}

@@ -1,6 +1,6 @@
 -- The bench examples that document 01 marks P, as one list of rows and one claim about a row.
 use mathlib.Core.Path.{_≡_}
-use mathlib.Core.Bool.{Bool, false, _||_}
+use mathlib.Core.Bool.{false, _||_}
 use mathlib.Core.List.{List, [], _∷_, _++_}
 use Prim.Native.Nat.{ℕ, _+_, _≤_, _<_}
 use lib.Dec.{eqb}
@@ -13,7 +13,7 @@ use Rattle.model.specs.Classes.{free, remaining, NextClass}
 use Rattle.model.specs.Intervals.{settingOf, fansPresent}
 use Rattle.model.specs.Plans.{Class, Slot, planOf, recordsBytes}
 use Rattle.model.specs.Line.{State, finished, shut, idle, dosing, Point}
-use Rattle.model.specs.Answers.{Answer, refusal, done, planRoom, overwritten, Plans, Judges, Draws, Pen, Moves, week}
+use Rattle.model.specs.Answers.{Answer, refusal, done, planRoom, overwritten, Plans, Judges, Draws, Moves}
 
 -- a dose's point at a tick
 pub record Drawing : Type 0 where

@@ -1,6 +1,6 @@
 -- From doses to classes (document 01, "From doses to classes").
 use mathlib.Core.Bool.{Bool, true, not, _&&_}
-use Prim.Native.Nat.{ℕ, zero, suc, _+_, _*_, _-_, _^_, _<_, min}
+use Prim.Native.Nat.{ℕ, zero, suc, _*_, _-_, _^_, _<_, min}
 use lib.Dec.{T, leb}
 use Rattle.model.specs.Sets.{sum, on, Doses, weight, Sub, Nonempty}
 

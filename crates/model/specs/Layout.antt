@@ -1,5 +1,4 @@
 -- From classes to slots (document 01): wrap-around, from shares to the list of slots.
-use mathlib.Core.Bool.{Bool, true, false}
 use mathlib.Core.List.{List, [], _∷_, map}
 use Prim.Native.Nat.{ℕ, _+_, _*_, _-_, _/_, _%_}
 use lib.Dec.{eqb, leb}
@@ -7,7 +6,7 @@ use Rattle.model.specs.Sets.{sum, Doses, weight}
 use Rattle.model.specs.Records.{pick}
 use Rattle.model.specs.Orders.{Order}
 use Rattle.model.specs.Lists.{gather}
-use Rattle.model.specs.Classes.{Setting, W, classP, reserved}
+use Rattle.model.specs.Classes.{W, classP, reserved}
 use Rattle.model.specs.Intervals.{instantAt, settingOf, fansPresent}
 use Rattle.model.specs.Plans.{Class, Slot}
 

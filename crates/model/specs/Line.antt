@@ -1,6 +1,6 @@
 -- The drawn line (document 01): units before a tick, amounts, states, and moments that are whole numbers of 1/q ticks.
 use mathlib.Core.Path.{_≡_}
-use mathlib.Core.Bool.{Bool, true, false, _&&_}
+use mathlib.Core.Bool.{_&&_}
 use mathlib.Core.List.{List, [], _∷_}
 use Prim.Native.Nat.{ℕ, _*_, _-_, _/_, _≤_, _<_, min}
 use lib.Dec.{eqb, leb, ltb}

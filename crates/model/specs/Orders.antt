@@ -1,7 +1,7 @@
 -- Orders (document 01, "Records" and refusals 2 to 8): from any bytes to fans, top rate and doses, or the refusal with its place.
-use mathlib.Core.Bool.{Bool, true, false, not, _&&_, _||_}
+use mathlib.Core.Bool.{Bool, false, not, _&&_, _||_}
 use mathlib.Core.List.{List, [], _∷_, _++_}
-use Prim.Native.Nat.{ℕ, zero, suc, _+_, _%_}
+use Prim.Native.Nat.{ℕ, suc, _+_, _%_}
 use lib.Dec.{eqb, leb}
 use lib.ListN.{length, getD}
 use Rattle.model.specs.Records.{pick, within, Reading, read, refused, andThen, fansParts, doseParts, blankAt, fieldOf, readAll}

@@ -1,5 +1,4 @@
 -- The records of a plan (document 01, "Records"): C and S, read from bytes and written.
-use mathlib.Core.Bool.{Bool, true, false}
 use mathlib.Core.List.{List, [], _∷_, _++_, map}
 use Prim.Native.Nat.{ℕ, _%_}
 use lib.Dec.{eqb}

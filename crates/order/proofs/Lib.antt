@@ -4,3 +4,4 @@ pub mod Laws
 pub mod Takes
 pub mod Walks
 pub mod Settles
+pub mod Fields

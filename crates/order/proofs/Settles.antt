@@ -1,15 +1,14 @@
 -- What the records of an order come to. Assumes nothing.
-use Prim.Native.Nat.{ℕ, zero, suc, _+_, _-_, _<_, _≤_}
+use Prim.Native.Nat.{ℕ, suc, _+_, _-_, _<_, _≤_}
 use mathlib.Core.Path.{_≡_, refl, sym, ap, _∙_}
 use mathlib.Core.Bool.{Bool, true, false}
 use mathlib.Core.List.{List, [], _∷_, _++_}
 use native.Mathlib.Omega.{arith}
 use native.Mathlib.Numerals.{add-one}
-use native.Mathlib.Nat.{add-zero, zero-add}
-use borrow.Author.Tests.{leb-true, leb-false, eqb-true, eq-eqb, ne-eqb, lt-leb}
+use native.Mathlib.Nat.{zero-add}
+use borrow.Author.Tests.{leb-true, eqb-true, eq-eqb, ne-eqb}
 use lib.Dec.{eqb, leb, eqb·suc-zero}
-use lib.ListN.{length, getD, set, drop, drop-of-length-le, length-append}
-use lib.Seq.{drop-cons}
+use lib.ListN.{length, getD, length-append}
 use Rattle.model.specs.Records.{pick, Reading, read, refused, andThen}
 use Rattle.model.specs.Orders.{fansEntry, doseEntry, noDose, fansIn, dosesIn, noClash, clashesAny, orderOf, orderWith, readOrder}
 use Rattle.model.specs.Orders as orders

@@ -1,5 +1,5 @@
 -- The walk over the records. Assumes nothing.
-use Prim.Native.Nat.{ℕ, zero, suc, _+_, _-_, _*_, _%_, _<_, _≤_}
+use Prim.Native.Nat.{ℕ, zero, suc, _+_, _-_, _%_, _<_, _≤_}
 use mathlib.Core.Path.{_≡_, refl, sym, ap, _∙_}
 use mathlib.Core.Bool.{Bool, true, false, _&&_}
 use mathlib.Core.List.{List, [], _∷_, _++_}
@@ -7,7 +7,7 @@ use native.Mathlib.Omega.{arith}
 use native.Mathlib.Numerals.{add-one}
 use borrow.Author.Tests.{leb-true, leb-false}
 use lib.Dec.{eqb, leb}
-use lib.ListN.{length, getD, take, drop, length-take, length-drop, length-append}
+use lib.ListN.{length, getD, length-append}
 use Rattle.model.specs.Records.{pick, Reading, read, refused, andThen, blankAt, fansParts, doseParts, recordAt, readFrom}
 use Rattle.model.specs.Orders.{fansEntry, doseEntry, fansOf, doseOf, fansFit, doseFits, checked, entryOf, fansIn, dosesIn, noClash, clashesAny, orderOf, orderWith, readOrder}
 use Rattle.model.specs.Orders as orders
@@ -90,13 +90,6 @@ unfolding readOrder
 each-read bytes = each-pick (eqb (length bytes % 32) 0 && leb (length bytes) 1600) (each-then orderOf (each-from bytes 0 _) (λ es p. each-order es)) refuses
 
 -- ---- one record
-
--- the part of the bytes that is handed on for record k
-pub record-part : (bytes : List ℕ) (k : ℕ) → take (32 * k + 32 - 32 * k) (drop (32 * k) bytes) ≡ recordAt bytes k
-record-part bytes k = let e : 32 * k + 32 - 32 * k ≡ 32 = omega arith in rw e
-
-pub record-length : (bytes : List ℕ) (k : ℕ) → 32 * k + 32 ≤ length bytes → length (recordAt bytes k) ≡ 32
-record-length bytes k h = simp (length-take, length-drop) (omega arith)
 
 with-few : (o : Order) (d : Dose) → o .count ≤ 24 → withDose o d .count ≤ 24
 unfolding withDose

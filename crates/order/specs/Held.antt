@@ -1,6 +1,5 @@
 -- How the structs of `order` hold what document 01 speaks of, and back.
 use mathlib.Core.Path.{_≡_}
-use mathlib.Core.Bool.{Bool}
 use mathlib.Core.List.{List, [], _∷_}
 use Prim.Native.Nat.{ℕ, zero, suc, _≤_}
 use lib.Dec.{eqb}
@@ -11,7 +10,6 @@ use Rattle.model.specs.Orders.{fansEntry, doseEntry, readOrder}
 use Rattle.model.specs.Orders as orders
 use Rattle.order.specs.declared.Fans.{Fans}
 use Rattle.order.specs.declared.Dose.{Dose}
-use Rattle.order.specs.declared.Refusal.{Refusal}
 use Rattle.order.specs.declared.Entry.{Entry}
 use Rattle.order.specs.declared.Entry.the-variants as is
 use Rattle.order.specs.declared.Order.{Order}

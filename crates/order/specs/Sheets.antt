@@ -11,7 +11,6 @@ use Rattle.model.specs.Orders as orders
 use Rattle.order.specs.Held.{asDose, heldFans, heldDose, heldEntry, dosesHeld, noOrder}
 use Rattle.order.specs.declared.Fans.{Fans}
 use Rattle.order.specs.declared.Dose.{Dose}
-use Rattle.order.specs.declared.Refusal.{Refusal}
 use Rattle.order.specs.declared.Entry.{Entry}
 use Rattle.order.specs.declared.Entry.the-variants as is
 use Rattle.order.specs.declared.Order.{Order}

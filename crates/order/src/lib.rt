@@ -58,7 +58,7 @@ pub struct Reading {
 }
 
 // What the records so far come to: F records, D records, the first 24 doses, and 1 more than the index of the first D
-// that overlaps an earlier one (0: none does).
+// that overlaps an earlier one of these (0: none does; more doses than 24 are refused before).
 struct Sheet {
     heads: usize,
     doses: usize,
@@ -197,6 +197,7 @@ fn add_dose(s: Sheet, d: Dose, k: usize) -> Sheet
     }
 }
 
+// A record's refusal ends the walk. An F or a D comes here from no caller.
 fn refused_walk(e: Entry) -> Walked
     ensures { λ w. ⌜ w ≡ takenRefused e ⌝ }
 {
@@ -278,8 +279,8 @@ fn refuse(number: u32, place: usize) -> Reading
 {
     let o = no_order();
     Reading {
-        number: number,
-        place: place,
+        number,
+        place,
         order: o,
     }
 }

@@ -1,8 +1,8 @@
 // Two slots: "slots by interval, fan, start"; "no two slots of one fan overlap; no two slots of one dose overlap".
 use clauses::records::slot_at;
-use clauses::small::product;
 use plan_records::Slot;
 use slots::place_of;
+use steps::product;
 ghost use Prim.Native.Nat.{ℕ, _+_, _/_, _<_, _≤_};
 ghost use lib.ListN.{length};
 ghost use Rattle.model.specs.Stands.{EndsBy};

@@ -1,15 +1,13 @@
 -- Laws of the plan's records: the C records in a loop, and all records in front of the rest of the buffer. Assumes nothing.
-use mathlib.Core.Path.{_≡_, refl, subst, sym, ap, _∙_}
+use mathlib.Core.Path.{_≡_, subst, sym, ap, _∙_}
 use mathlib.Core.List.{List, [], _∷_, _++_, map}
 use Prim.Native.Nat.{ℕ, _+_, _*_, _≤_}
 use native.Mathlib.Nat.{zero-add}
-use native.Mathlib.Numerals.{add-one}
 use native.Mathlib.Omega.{arith}
 use lib.ListN.{drop, length, length-map}
 use lib.Seq.{sets-eq}
 use Rattle.field.specs.Written.{written}
 use Rattle.field.proofs.Laws.{join}
-use Rattle.model.specs.Sets.{Doses, on, sum, weight}
 use Rattle.model.specs.Lists.{gather}
 use Rattle.model.specs.Plans.{Class, Slot, classRecord, planOf, planRecordBytes, recordsBytes, slotRecord}
 use Rattle.model.specs.Answers.{overwritten}
@@ -19,18 +17,6 @@ use Rattle.layout.specs.declared.Tables.{Tables}
 use Rattle.layout.specs.Laying.{Wrote}
 use Rattle.layout.proofs.Runs.{gather-more, gather-none, wrote-one}
 use Rattle.plan.specs.Held.{classFrom, classesFrom}
-
--- ---- doses in a class
-
-pub count-none : (w : ℕ → ℕ) (A : Doses) → 0 ≡ weight 0 w A
-unfolding weight sum
-count-none w A = refl
-
-pub count-more : (k : ℕ) (w : ℕ → ℕ) (A : Doses) {a b : ℕ} → a ≡ weight k w A → b ≡ on (A k) (w k) → a + b ≡ weight (k + 1) w A
-unfolding weight sum
-count-more k w A e f = rw add-one (omega arith)
-
--- ---- C records
 
 abbrev one : Tables → ℕ → List Class
 one t i = classFrom t i ∷ []

@@ -2,7 +2,7 @@
 use interval::Instants;
 use layout::Tables;
 ghost use mathlib.Core.Path.{_≡_};
-ghost use Prim.Native.Nat.{ℕ, _-_, _%_, _<_};
+ghost use Prim.Native.Nat.{ℕ, _%_, _<_};
 ghost use lib.ListN.{getD};
 ghost use Rattle.plan.specs.Held.{TablesOf};
 
@@ -19,13 +19,6 @@ fn narrow(wide: [u64; 24]) -> [u32; 24]
     numbers
 }
 
-// Instants "bound the intervals".
-fn interval_count(s: Instants) -> usize
-    ensures { λ r. ⌜ r ≡ s .count - 1 ⌝ }
-{
-    if s.count == 0 { 0 } else { s.count - 1 }
-}
-
 pub fn tables_of(
     doses: usize,
     s: Instants,
@@ -37,7 +30,7 @@ pub fn tables_of(
     ensures { λ r. ⌜ TablesOf doses s classes «class_of» grams time r ⌝ }
 {
     let instants = s.at;
-    let intervals = interval_count(s);
+    let intervals = interval::interval_count(s);
     let narrow_grams = narrow(grams);
     let narrow_time = narrow(time);
     Tables {

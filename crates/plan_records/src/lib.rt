@@ -1,7 +1,7 @@
 // The records of a plan (document 01, "Records"): C and S, read and written.
 ghost use mathlib.Core.Path.{_≡_};
 ghost use mathlib.Core.List.{_++_};
-ghost use Prim.Native.Nat.{_+_, _≤_};
+ghost use Prim.Native.Nat.{_+_, _*_, _≤_};
 ghost use lib.ListN.{length};
 ghost use Rattle.field.specs.Written.{written};
 ghost use Rattle.model.specs.Records.{numberBytes};
@@ -27,6 +27,13 @@ pub struct Slot {
     pub grams: u32,
     pub time: u32,
     pub class: u32,
+}
+
+// A moment in units of 1/W: "A moment is a tick plus part/W".
+pub fn moment(tick: u32, part: u32, grams: u32) -> u64
+    ensures { λ r. ⌜ r ≡ tick * grams + part ⌝ }
+{
+    (tick as u64) * (grams as u64) + part as u64
 }
 
 // Reads a C record.

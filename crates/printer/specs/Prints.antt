@@ -1,5 +1,4 @@
 -- What the printer's text says of an order (document 01, "The plan printer").
-use mathlib.Core.Path.{_≡_}
 use mathlib.Core.List.{List}
 use Prim.Native.Nat.{ℕ, _≤_}
 use lib.Dec.{eqb}

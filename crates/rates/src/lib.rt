@@ -1,13 +1,13 @@
 // W and P of the sets that the slots name, by the rule (document 01, "From doses to classes"), against the C records.
 use clauses::records::class_at;
-use clauses::small::both;
-use clauses::small::index;
-use clauses::small::less;
-use clauses::small::on;
-use clauses::small::product;
-use clauses::small::smaller;
-use clauses::small::wide;
 use plan_records::Class;
+use steps::both;
+use steps::index;
+use steps::less;
+use steps::on;
+use steps::product;
+use steps::smaller;
+use steps::wide;
 ghost use mathlib.Core.Path.{_≡_};
 ghost use mathlib.Core.Bool.{_&&_};
 ghost use Prim.Native.Nat.{ℕ, _+_, _-_, _*_, _/_, _<_, _≤_};

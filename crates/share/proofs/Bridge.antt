@@ -17,8 +17,9 @@ use Rattle.model.proofs.FanTime.{Heavy}
 use Rattle.model.proofs.Fractions.{compare≤}
 use Rattle.model.proofs.Chains.{some-part, smaller}
 use Rattle.model.proofs.Rounds.{Keeps, keeps-end, keeps-step}
-use Rattle.share.specs.Share.{cell, got, given, Raised, Met}
-use Rattle.share.proofs.Laws.{got-sum, given-sum}
+use Rattle.chains.specs.Chains.{cell, got, given}
+use Rattle.share.specs.Share.{Raised, Met}
+use Rattle.chains.proofs.Laws.{got-sum, given-sum}
 
 true-T : {b : Bool} → b ≡ true → T b
 true-T e = rw e tt

@@ -1,10 +1,10 @@
 // The clauses of one slot (document 01, "A plan stands").
 use clauses::records::class_at;
 use clauses::records::slot_at;
-use clauses::small::index;
-use clauses::small::moment;
 use plan_records::Class;
 use plan_records::Slot;
+use plan_records::moment;
+use steps::index;
 ghost use mathlib.Core.Path.{_≡_};
 ghost use Prim.Native.Nat.{ℕ, _/_, _<_, _≤_};
 ghost use lib.ListN.{length, getD};

@@ -1,10 +1,10 @@
 // "each dose's slots total w × P units".
 use clauses::records::class_at;
 use clauses::records::slot_at;
-use clauses::small::index;
-use clauses::small::product;
 use slots::ends;
 use slots::starts;
+use steps::index;
+use steps::product;
 ghost use mathlib.Core.Path.{_≡_};
 ghost use Prim.Native.Nat.{ℕ, _/_, _<_, _≤_};
 ghost use lib.ListN.{length, getD};

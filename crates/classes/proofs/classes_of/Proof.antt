@@ -1,8 +1,11 @@
 -- `classes_of` meets its contract: the arrays stand for the order (OfOrder).
 use mathlib.Core.Path.{refl}
 use borrow.Author.Needs.{needs}
+use Rattle.order.specs.Held.{asOrder}
+use Rattle.order.proofs.Fields.{fans-is, few-doses}
+use Rattle.sheet.proofs.OfOrder.{agree, sheet}
 use Rattle.classes.proofs.OnePhase.{blank}
-use Rattle.classes.proofs.OfOrder.{few-doses, sheet, of-order}
+use Rattle.classes.proofs.OfOrder.{of-order}
 use Rattle.classes.proofs.classes_of.Statement.{statement}
 use Rattle.classes.proofs.classes_of.Tie as tie
 
@@ -30,12 +33,25 @@ cast-phases c = search needs
 phases-requires : tie.Need-phases-requires
 phases-requires c κs =
     let A = c .before .before .before .before .before .before .before .before .before .before .before .before .before .args in
-    (refl, refl, sheet (A .o) (c .before .before .before .before .before .before .before .before .before .before .before .before .before .pre) (c .before .before .before .before .before .before .before .before .before .before .before .before .instants-of .result) (c .before .before .before .before .before .before .before .before .before .before .before .before .instants-of .ensures) (c .before .before .before .before .before .before .before .before .before .before .before .interval-count .result) (c .before .before .before .before .before .before .before .before .before .before .before .interval-count .ensures) (c .before .before .before .before .before .before .before .before .before .before .active-in-order .result) (c .before .before .before .before .before .before .before .before .before .lens-in .result) (c .before .before .before .before .before .before .before .before .grams-in .result) (c .before .before .before .before .before .before .before .before .before .before .active-in-order .ensures) (c .before .before .before .before .before .before .before .before .before .lens-in .ensures .0) (c .before .before .before .before .before .before .before .before .before .lens-in .ensures .1) (c .before .before .before .before .before .before .before .before .grams-in .ensures .0) (c .before .before .before .before .before .before .before .before .grams-in .ensures .1), blank)
+    let fit = c .before .before .before .before .before .before .before .before .before .before .before .before .before .pre in
+    let s = c .before .before .before .before .before .before .before .before .before .before .before .before .instants-of in
+    let J = c .before .before .before .before .before .before .before .before .before .before .before .interval-count in
+    let active = c .before .before .before .before .before .before .before .before .before .before .active-in-order in
+    let lens = c .before .before .before .before .before .before .before .before .before .lens-in in
+    let grams = c .before .before .before .before .before .before .before .before .grams-in in
+    (refl, refl, sheet (A .o) fit (s .result) (s .ensures) (J .result) (J .ensures) (active .result) (lens .result) (grams .result) (active .ensures) (lens .ensures .0) (lens .ensures .1) (grams .ensures .0) (grams .ensures .1), blank)
 
 returns : tie.Need-returns
 returns c =
     let A = c .before .before .before .before .before .before .before .before .before .before .before .before .before .before .args in
-    of-order (A .o) (c .before .before .before .before .before .before .before .before .before .before .before .before .before .before .pre) (c .before .before .before .before .before .before .before .before .before .before .before .before .before .instants-of .result) (c .before .before .before .before .before .before .before .before .before .before .before .before .before .instants-of .ensures) (c .before .before .before .before .before .before .before .before .before .before .before .before .interval-count .result) (c .before .before .before .before .before .before .before .before .before .before .before .before .interval-count .ensures) (c .before .before .before .before .before .before .before .before .before .before .before .active-in-order .result) (c .before .before .before .before .before .before .before .before .before .before .lens-in .result) (c .before .before .before .before .before .before .before .before .before .grams-in .result) (c .before .before .before .before .before .before .before .before .before .before .before .active-in-order .ensures) (c .before .before .before .before .before .before .before .before .before .before .lens-in .ensures .0) (c .before .before .before .before .before .before .before .before .before .before .lens-in .ensures .1) (c .before .before .before .before .before .before .before .before .before .grams-in .ensures .0) (c .before .before .before .before .before .before .before .before .before .grams-in .ensures .1) _ _ _ (c .phases .ensures .0) (c .phases .ensures .1)
+    let fit = c .before .before .before .before .before .before .before .before .before .before .before .before .before .before .pre in
+    let s = c .before .before .before .before .before .before .before .before .before .before .before .before .before .instants-of in
+    let J = c .before .before .before .before .before .before .before .before .before .before .before .before .interval-count in
+    let active = c .before .before .before .before .before .before .before .before .before .before .before .active-in-order in
+    let lens = c .before .before .before .before .before .before .before .before .before .before .lens-in in
+    let grams = c .before .before .before .before .before .before .before .before .before .grams-in in
+    of-order (asOrder (A .o)) fit _ _ (active .result) (lens .result) (grams .result) (agree (A .o) fit (s .result) (s .ensures) (J .result) (J .ensures) (active .result) (lens .result) (grams .result) (active .ensures) (lens .ensures .0) (lens .ensures .1) (grams .ensures .0) (grams .ensures .1))
+    _ (fans-is (A .o)) _ _ _ (c .phases .ensures .0) (c .phases .ensures .1)
 
 pub classes-of-spec : {M : Type 1} → statement M
 classes-of-spec =

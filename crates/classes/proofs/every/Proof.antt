@@ -6,7 +6,7 @@ use lib.Dec.{ltb}
 use lib.ListN.{length, getD, length-set}
 use native.Mathlib.Omega.{arith}
 use borrow.Author.Needs.{needs}
-use Rattle.classes.proofs.Loops.{stored}
+use Rattle.steps.proofs.Loops.{stored}
 use Rattle.classes.proofs.every.Statement.{statement}
 use Rattle.classes.proofs.every.Tie as tie
 

@@ -5,7 +5,7 @@ use mathlib.Core.Bool.{false, not, _&&_}
 use lib.ListN.{length, getD, length-set}
 use native.Mathlib.Omega.{arith}
 use borrow.Author.Needs.{needs}
-use Rattle.classes.proofs.Loops.{stored}
+use Rattle.steps.proofs.Loops.{stored}
 use Rattle.classes.proofs.left_of.Statement.{statement}
 use Rattle.classes.proofs.left_of.Tie as tie
 

@@ -4,7 +4,7 @@ use mathlib.Core.Path.{_≡_}
 use lib.ListN.{length}
 use native.Mathlib.Omega.{arith}
 use borrow.Author.Needs.{needs}
-use Rattle.classes.specs.Sheet.{settingFrom}
+use Rattle.sheet.specs.Sheet.{settingFrom}
 use Rattle.classes.specs.Phase.{SoFar}
 use Rattle.classes.proofs.OnePhase.{so-far-start}
 use Rattle.classes.proofs.phases.Statement.{statement}

@@ -8,7 +8,7 @@ use native.Mathlib.Nat.{mul-le-mul}
 use Rattle.model.specs.Classes.{setNumber}
 use Rattle.order.specs.Held.{asOrder}
 use Rattle.classes.specs.Phase.{classOf}
-use Rattle.classes.proofs.OfOrder.{few-doses, doses-is, seconds-is, top-grams-is}
+use Rattle.order.proofs.Fields.{doses-is, top-grams-is, top-seconds-is, few-doses}
 use Rattle.classes.proofs.OverTop.{no-first, grams-fit, time-fit, slow-if, too-fast-above, too-fast-not}
 use Rattle.classes.proofs.too_fast.Statement.{statement}
 use Rattle.classes.proofs.too_fast.Tie as tie
@@ -36,7 +36,8 @@ mul-if2 c =
     let fit = c .before .before .before .before .pre .0 in
     let of = c .before .before .before .before .pre .1 in
     let some : 0 < A .t2 .class = omega (arith, c .before .before .before .if1 .left) in
-    let h : getD (A .t2 .grams) 0 0 * c .wide .result ≤ 24000000 * 4294967295 = mul-le-mul (grams-fit (asOrder (A .o)) fit (A .t2) of some) (c .wide .ensures .1) in
+    let top : c .wide .result ≤ 4294967295 = omega (arith, c .wide .ensures .1) in
+    let h : getD (A .t2 .grams) 0 0 * c .wide .result ≤ 24000000 * 4294967295 = mul-le-mul (grams-fit (asOrder (A .o)) fit (A .t2) of some) top in
     omega arith
 
 wide-requires-2 : tie.Need-wide-requires-2
@@ -48,7 +49,8 @@ mul-if2-2 c =
     let fit = c .before .before .before .before .before .pre .0 in
     let of = c .before .before .before .before .before .pre .1 in
     let some : 0 < A .t2 .class = omega (arith, c .before .before .before .before .if1 .left) in
-    let h : getD (A .t2 .time) 0 0 * c .wide2 .result ≤ 1000000000 * 4294967295 = mul-le-mul (time-fit (asOrder (A .o)) fit (A .t2) of some) (c .wide2 .ensures .1) in
+    let top : c .wide2 .result ≤ 4294967295 = omega (arith, c .wide2 .ensures .1) in
+    let h : getD (A .t2 .time) 0 0 * c .wide2 .result ≤ 1000000000 * 4294967295 = mul-le-mul (time-fit (asOrder (A .o)) fit (A .t2) of some) top in
     omega arith
 
 not-above-requires-2 : tie.Need-not-above-requires-2
@@ -60,7 +62,7 @@ returns-2 c =
     let fit = c .before .before .before .before .before .before .before .pre .0 in
     let of = c .before .before .before .before .before .before .before .pre .1 in
     let some : 0 < A .t2 .class = omega (arith, c .before .before .before .before .before .before .if1 .left) in
-    let h : getD (A .t2 .grams) 0 0 * asOrder (A .o) .topSeconds ≤ getD (A .t2 .time) 0 0 * asOrder (A .o) .topGrams = omega (arith, c .before .if2 .taken, ap (λ (y : ℕ). getD (A .t2 .grams) 0 0 * y) (c .before .before .before .wide .ensures .0 ∙ seconds-is (A .o)), ap (λ (y : ℕ). getD (A .t2 .time) 0 0 * y) (c .before .before .wide2 .ensures .0 ∙ top-grams-is (A .o))) in
+    let h : getD (A .t2 .grams) 0 0 * asOrder (A .o) .topSeconds ≤ getD (A .t2 .time) 0 0 * asOrder (A .o) .topGrams = omega (arith, c .before .if2 .taken, ap (λ (y : ℕ). getD (A .t2 .grams) 0 0 * y) (c .before .before .before .wide .ensures .0 ∙ top-seconds-is (A .o)), ap (λ (y : ℕ). getD (A .t2 .time) 0 0 * y) (c .before .before .wide2 .ensures .0 ∙ top-grams-is (A .o))) in
     too-fast-not (asOrder (A .o)) fit (A .t2) of _ (c .not-above2 .ensures) (slow-if (asOrder (A .o)) fit (A .t2) of some h)
 
 first-set-requires : tie.Need-first-set-requires
@@ -72,7 +74,7 @@ returns-3 c =
     let fit = c .before .before .before .before .before .before .before .before .pre .0 in
     let of = c .before .before .before .before .before .before .before .before .pre .1 in
     let some : 0 < A .t2 .class = omega (arith, c .before .before .before .before .before .before .before .if1 .left) in
-    let h : getD (A .t2 .time) 0 0 * asOrder (A .o) .topGrams < getD (A .t2 .grams) 0 0 * asOrder (A .o) .topSeconds = omega (arith, c .before .before .if2 .left, ap (λ (y : ℕ). getD (A .t2 .grams) 0 0 * y) (c .before .before .before .before .wide .ensures .0 ∙ seconds-is (A .o)), ap (λ (y : ℕ). getD (A .t2 .time) 0 0 * y) (c .before .before .before .wide2 .ensures .0 ∙ top-grams-is (A .o))) in
+    let h : getD (A .t2 .time) 0 0 * asOrder (A .o) .topGrams < getD (A .t2 .grams) 0 0 * asOrder (A .o) .topSeconds = omega (arith, c .before .before .if2 .left, ap (λ (y : ℕ). getD (A .t2 .grams) 0 0 * y) (c .before .before .before .before .wide .ensures .0 ∙ top-seconds-is (A .o)), ap (λ (y : ℕ). getD (A .t2 .time) 0 0 * y) (c .before .before .before .wide2 .ensures .0 ∙ top-grams-is (A .o))) in
     too-fast-above (asOrder (A .o)) fit (A .t2) of some (c .first-set .result) (c .first-set .ensures ∙ ap (λ (m : ℕ). setNumber m (classOf (A .t2 .numbers) 0)) (doses-is (A .o))) h
 
 pub too-fast-spec : {M : Type 1} → statement M

@@ -1,3 +1,4 @@
+-- `counted` meets its contract: in each case it is the smaller of end and moment, less the start, and 0 where the start is later.
 use native.Mathlib.Omega.{arith}
 use Rattle.draw.proofs.counted.Statement.{statement}
 use Rattle.draw.proofs.counted.Tie as tie

@@ -1,4 +1,5 @@
-use Rattle.order.proofs.Walks.{record-part, record-length}
+-- `fed_at` meets its contract: no record passed feeds the dose at the tick, so the records left give the state that all give (Walks).
+use Rattle.field.proofs.Records.{part-length}
 use Rattle.draw.proofs.Walks.{fedLeft, fed-found, fed-again, fed-end}
 use Rattle.model.specs.Line.{dosing}
 use Rattle.draw.specs.Drawing.{asState}
@@ -36,7 +37,7 @@ part-feeds-end : tie.Need-part-feeds-end Inv-loop μ-loop
 part-feeds-end c = search needs
 
 feeds-requires : tie.Need-feeds-requires Inv-loop μ-loop
-feeds-requires c κs = ap length (record-part (c .before .before .before .before .args .plan .now) (c .before .before .loop .k)) ∙ record-length (c .before .before .before .before .args .plan .now) (c .before .before .loop .k) (omega arith)
+feeds-requires c κs = part-length (c .before .before .before .before .args .plan .now) (c .before .before .loop .k) (omega arith)
 
 sub-read8 : tie.Need-sub-read8 Inv-loop μ-loop
 sub-read8 c = search needs
@@ -48,7 +49,7 @@ part-read8-end : tie.Need-part-read8-end Inv-loop μ-loop
 part-read8-end c = search needs
 
 read8-requires : tie.Need-read8-requires Inv-loop μ-loop
-read8-requires c κs = omega (arith, ap length (record-part (c .before .before .before .before .before .before .before .args .plan .now) (c .before .before .before .before .before .loop .k)) ∙ record-length (c .before .before .before .before .before .before .before .args .plan .now) (c .before .before .before .before .before .loop .k) (omega arith))
+read8-requires c κs = omega (arith, part-length (c .before .before .before .before .before .before .before .args .plan .now) (c .before .before .before .before .before .loop .k) (omega arith))
 
 returns : tie.Need-returns Inv-loop μ-loop
 unfolding asState

@@ -1,3 +1,4 @@
+-- `feeds` meets its contract: each test asks for one thing: a slot of the dose, a start at or before the tick, an end after it.
 use borrow.Author.Tests.{le-leb, lt-leb}
 use Rattle.order.proofs.Cases.{was-off, was-on, and-off, and-on}
 use Rattle.draw.specs.Drawing.{feedsAt}

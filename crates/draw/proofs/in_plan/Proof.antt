@@ -1,3 +1,4 @@
+-- `in_plan` meets its contract: 11 for no such dose, 12 for a tick over 604,800, else the point by the order read again (Drawings).
 use Rattle.draw.proofs.Drawings.{drawable, draws-no-dose, draws-too-late, draws-point}
 use borrow.Author.Needs.{needs}
 use Rattle.draw.proofs.in_plan.Statement.{statement}

@@ -1,3 +1,4 @@
+-- `move_on` meets its contract: the answer is the drawing at the next tick, and the tick moves on only with answer 0 (Drawings).
 use Rattle.draw.proofs.Drawings.{moves-by}
 use borrow.Author.Needs.{needs}
 use Rattle.draw.proofs.move_on.Statement.{statement}

@@ -1,3 +1,4 @@
+-- `next_tick` meets its contract: a tick below 604,800 is raised by one; any other becomes 604,801.
 use native.Mathlib.Omega.{arith}
 use Rattle.draw.proofs.next_tick.Statement.{statement}
 use Rattle.draw.proofs.next_tick.Tie as tie

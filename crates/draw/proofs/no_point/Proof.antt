@@ -1,3 +1,4 @@
+-- `no_point` meets its contract: number, place and values are those given, the amount is 0 and the state Shut.
 use Rattle.draw.specs.Drawing.{asState}
 use mathlib.Core.Path.{refl}
 use Rattle.draw.proofs.no_point.Statement.{statement}

@@ -1,3 +1,4 @@
+-- `own_slot` meets its contract: the kind of an S, then the dose in bytes 2 and 3.
 use borrow.Author.Tests.{eq-eqb, ne-eqb}
 use Rattle.order.proofs.Cases.{and-off, and-on}
 use Rattle.draw.specs.Drawing.{ownSlot}

@@ -1,3 +1,4 @@
+-- `point_at` meets its contract: a verdict that is not 0 is the answer, without a point; a verdict of 0 is a plan that stands (Answers).
 use Rattle.draw.proofs.Drawings.{draws-refused}
 use Rattle.draw.proofs.Answers.{judged-sound}
 use Rattle.model.specs.Answers.{Drawn}

@@ -1,3 +1,4 @@
+-- `point_of` meets its contract: the dose's P is above 0, and the whole part of its units divided by P fits 32 bits (Points).
 use Rattle.draw.proofs.Points.{has-time, amount-fits}
 use Rattle.model.specs.Line.{drawn}
 use mathlib.Core.Path.{_∙_}

@@ -1,3 +1,4 @@
+-- `state_of` meets its contract: Finished from the deadline on, Shut before the release, else what the slots say (Points).
 use Rattle.draw.proofs.Points.{state-finished, state-shut, state-open}
 use Rattle.draw.specs.Drawing.{asState}
 use mathlib.Core.Path.{_∙_}

@@ -1,7 +1,8 @@
-use Rattle.order.proofs.Walks.{record-part, record-length}
+-- `time_of` meets its contract: no record passed is a slot of the dose, so the records left give the P that all give (Walks).
+use Rattle.field.proofs.Records.{part-length}
 use Rattle.draw.proofs.Walks.{timeLeft, time-found, time-again, time-end}
 use Prim.Native.Nat.{_+_, _-_, _/_, _≤_}
-use mathlib.Core.Path.{_≡_, refl, sym, ap, _∙_}
+use mathlib.Core.Path.{_≡_, refl, sym, _∙_}
 use native.Mathlib.Nat.{sub-zero}
 use native.Mathlib.Omega.{arith}
 use borrow.Author.Needs.{needs}
@@ -34,7 +35,7 @@ part-own-slot-end : tie.Need-part-own-slot-end Inv-loop μ-loop
 part-own-slot-end c = search needs
 
 own-slot-requires : tie.Need-own-slot-requires Inv-loop μ-loop
-own-slot-requires c κs = ap length (record-part (c .before .before .before .before .args .plan .now) (c .before .before .loop .k)) ∙ record-length (c .before .before .before .before .args .plan .now) (c .before .before .loop .k) (omega arith)
+own-slot-requires c κs = part-length (c .before .before .before .before .args .plan .now) (c .before .before .loop .k) (omega arith)
 
 sub-read32 : tie.Need-sub-read32 Inv-loop μ-loop
 sub-read32 c = search needs
@@ -46,7 +47,7 @@ part-read32-end : tie.Need-part-read32-end Inv-loop μ-loop
 part-read32-end c = search needs
 
 read32-requires : tie.Need-read32-requires Inv-loop μ-loop
-read32-requires c κs = omega (arith, ap length (record-part (c .before .before .before .before .before .before .before .args .plan .now) (c .before .before .before .before .before .loop .k)) ∙ record-length (c .before .before .before .before .before .before .before .args .plan .now) (c .before .before .before .before .before .loop .k) (omega arith))
+read32-requires c κs = omega (arith, part-length (c .before .before .before .before .before .before .before .args .plan .now) (c .before .before .before .before .before .loop .k) (omega arith))
 
 returns : tie.Need-returns Inv-loop μ-loop
 returns c =

@@ -1,7 +1,8 @@
-use Rattle.order.proofs.Walks.{record-part, record-length}
+-- `units_before` meets its contract: the sum so far and the units of the records left make the units of all (Walks).
+use Rattle.field.proofs.Records.{part-length}
 use Rattle.draw.proofs.Walks.{unitsLeft, units-fit, units-again, units-end}
 use Prim.Native.Nat.{_+_, _-_, _/_, _≤_}
-use mathlib.Core.Path.{_≡_, refl, ap, _∙_}
+use mathlib.Core.Path.{_≡_, refl}
 use native.Mathlib.Nat.{sub-zero}
 use native.Mathlib.Omega.{arith}
 use borrow.Author.Needs.{needs}
@@ -34,7 +35,7 @@ part-units-in-end : tie.Need-part-units-in-end Inv-loop μ-loop
 part-units-in-end c = search needs
 
 units-in-requires : tie.Need-units-in-requires Inv-loop μ-loop
-units-in-requires c κs = ap length (record-part (c .before .before .before .before .args .plan .now) (c .before .before .loop .k)) ∙ record-length (c .before .before .before .before .args .plan .now) (c .before .before .loop .k) (omega arith)
+units-in-requires c κs = part-length (c .before .before .before .before .args .plan .now) (c .before .before .loop .k) (omega arith)
 
 add-sum : tie.Need-add-sum Inv-loop μ-loop
 add-sum c = omega (arith, c .units-in .ensures, units-fit (c .before .before .before .before .before .args .plan .now) (c .before .before .before .before .before .args .dose) (c .before .before .before .before .before .pre) (c .before .before .before .loop .k) (length (c .before .before .before .before .before .args .plan .now) / 32 - c .before .before .before .loop .k) (c .before .before .before .before .before .args .tick) (c .before .before .before .loop .sum) (c .before .before .before .loop .inv .2) (omega arith))

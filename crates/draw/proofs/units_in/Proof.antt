@@ -1,3 +1,4 @@
+-- `units_in` meets its contract: a slot of the dose gives its units before the tick, as `counted` has them; any other record 0.
 use Rattle.order.proofs.Cases.{was-off, was-on}
 use Rattle.draw.specs.Drawing.{unitsIn}
 use mathlib.Core.Path.{_∙_}

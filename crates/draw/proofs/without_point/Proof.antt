@@ -1,3 +1,4 @@
+-- `without_point` meets its contract: each of the four verdicts has its case, with its number, place and values.
 use Rattle.model.specs.Answers.{noPoint}
 use Rattle.judge.specs.Verdict.{asAnswer}
 use Rattle.judge.specs.declared.Judged.{Judged}

@@ -1,3 +1,4 @@
+-- `blank` meets its contract: the bytes passed are zero, so the number in the bytes left is 0 just where the whole is (Laws).
 use Prim.Native.Nat.{_≤_, _-_, _+_}
 use mathlib.Core.Path.{_≡_, sym, _∙_}
 use native.Mathlib.Omega.{arith}

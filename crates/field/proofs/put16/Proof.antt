@@ -1,3 +1,4 @@
+-- `put16` meets its contract: the two bytes written, the lower first, are those of the number.
 use lib.ListN.{length-set}
 use native.Mathlib.Omega.{arith}
 use native.Mathlib.Numerals.{add-one}

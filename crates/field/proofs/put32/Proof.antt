@@ -1,3 +1,4 @@
+-- `put32` meets its contract: the four bytes written, the lowest first, are those of the number.
 use lib.ListN.{length-set}
 use native.Mathlib.Omega.{arith}
 use native.Mathlib.Numerals.{add-one}

@@ -1,3 +1,4 @@
+-- `put8` meets its contract: the byte written is the number's remainder by 256, and that is its one byte.
 use Rattle.model.specs.Records.{numberBytes}
 use Rattle.field.specs.Written.{written}
 use mathlib.Core.Path.{refl}

@@ -1,3 +1,4 @@
+-- `put_blank` meets its contract: the bytes passed are zeros, and every other byte is as before (Laws).
 use Prim.Native.Nat.{ℕ, _≤_, _-_, _+_}
 use mathlib.Core.Path.{_≡_, refl, ap, _∙_}
 use mathlib.Core.List.{List}

@@ -1,17 +1,18 @@
+-- `read8` meets its contract: the number in one byte is that byte (Laws).
 use native.Mathlib.Omega.{arith}
 use Rattle.field.proofs.Laws.{number1}
 use borrow.Author.Needs.{needs}
 use Rattle.field.proofs.read8.Statement.{statement}
 use Rattle.field.proofs.read8.Tie as tie
 
-shared-slice-read-wide : tie.Need-shared-slice-read-wide
-shared-slice-read-wide c = search needs
+shared-slice-read-of-byte : tie.Need-shared-slice-read-of-byte
+shared-slice-read-of-byte c = search needs
 
-wide-requires : tie.Need-wide-requires
-wide-requires c κs = search needs
+of-byte-requires : tie.Need-of-byte-requires
+of-byte-requires c κs = search needs
 
 returns : tie.Need-returns
 returns c = omega (arith, number1 (c .before .before .before .args .s .now) (c .before .before .before .args .at))
 
 pub read8-spec : {M : Type 1} → statement M
-read8-spec = tie.close (tie.spec shared-slice-read-wide wide-requires returns)
+read8-spec = tie.close (tie.spec shared-slice-read-of-byte of-byte-requires returns)

@@ -1,3 +1,4 @@
+-- `knellgable_judge` meets its contract: the answer is the judge's verdict in numbers, as `verdict_of` gives it.
 use borrow.Author.Needs.{needs}
 use Rattle.knellgable.proofs.knellgable_judge.Statement.{statement}
 use Rattle.knellgable.proofs.knellgable_judge.Tie as tie

@@ -1,3 +1,4 @@
+-- `state_fan` meets its contract: Dosing gives its fan, and each of the other three states 0.
 use mathlib.Core.Path.{sym, ap}
 use Rattle.draw.specs.Drawing.{asState}
 use Rattle.draw.specs.declared.State.{State}

@@ -1,3 +1,4 @@
+-- `state_number` meets its contract: each of the four states has its case and its number, from 0 to 3.
 use mathlib.Core.Path.{sym, ap}
 use Rattle.draw.specs.Drawing.{asState}
 use Rattle.draw.specs.declared.State.{State}

@@ -1,3 +1,4 @@
+-- `verdict_of` meets its contract: each of the four verdicts has its case, with its number, place and values.
 use mathlib.Core.Path.{sym, ap, _∙_}
 use Rattle.judge.specs.Verdict.{asAnswer}
 use Rattle.judge.specs.declared.Judged.{Judged}

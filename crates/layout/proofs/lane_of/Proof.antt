@@ -1,3 +1,4 @@
+-- `lane_of` meets its contract: each field is read at its place, and the length is the next instant less the start.
 use mathlib.Core.Path.{refl}
 use Rattle.layout.specs.Held.{laneAt}
 use borrow.Author.Needs.{needs}

@@ -1,3 +1,4 @@
+-- `lay_all` meets its contract: the records of the intervals passed are written, one interval behind the other (Runs).
 use mathlib.Core.Path.{_≡_, refl}
 use Prim.Native.Nat.{_≤_, _-_}
 use native.Mathlib.Omega.{arith}

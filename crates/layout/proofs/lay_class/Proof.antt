@@ -1,8 +1,8 @@
+-- `lay_class` meets its contract: the shares of the doses passed are laid end to end, and `a` is their sum (Shares).
 use mathlib.Core.Path.{_≡_, refl}
 use Prim.Native.Nat.{_≤_, _-_}
 use native.Mathlib.Omega.{arith}
 use lib.ListN.{length}
-use borrow.Author.Needs.{needs}
 use Rattle.layout.specs.Held.{asLane, shareAt}
 use Rattle.layout.proofs.Arrays.{share-is}
 use Rattle.layout.proofs.Shares.{Kept, kept-none, kept-more, room-at, sum-at, laid-all}

@@ -1,3 +1,4 @@
+-- `lay_interval` meets its contract: the classes passed are laid, and `below` is the sum of their reserved fans (Arrays).
 use mathlib.Core.Path.{_≡_, refl}
 use Prim.Native.Nat.{_≤_, _-_}
 use native.Mathlib.Nat.{le-of-lt}
@@ -22,20 +23,20 @@ lane-of-requires c κs = (omega (arith, c .before .before .before .before .befor
 lay-class-requires : tie.Need-lay-class-requires Inv-loop μ-loop
 lay-class-requires c κs = (rooms-at (c .before .before .before .before .before .before .before .pre .0) (c .before .before .before .before .loop .inv .2) (c .before .before .before .before .before .before .before .pre .1) (omega arith) (c .before .before .before .before .before .before .before .pre .2) (omega arith) (c .lane-of .ensures), c .before .before .before .before .before .before .before .pre .0 .doses, omega (arith, c .before .before .before .before .before .before .before .pre .0 .intervals), c .before .before .before .before .before .before .before .pre .0 .size)
 
-mul-wide : tie.Need-mul-wide Inv-loop μ-loop
-mul-wide c = omega (arith, c .before .before .before .before .before .before .before .before .before .before .pre .0 .classes)
+mul-of-byte : tie.Need-mul-of-byte Inv-loop μ-loop
+mul-of-byte c = omega (arith, c .before .before .before .before .before .before .before .before .before .before .pre .0 .classes)
 
-index-1-wide : tie.Need-index-1-wide Inv-loop μ-loop
-index-1-wide c = omega (arith, c .before .before .before .before .before .before .before .before .before .before .pre .0 .classes)
+index-1-of-byte : tie.Need-index-1-of-byte Inv-loop μ-loop
+index-1-of-byte c = omega (arith, c .before .before .before .before .before .before .before .before .before .before .pre .0 .classes)
 
-index-2-wide : tie.Need-index-2-wide Inv-loop μ-loop
-index-2-wide c = omega (arith, c .before .before .before .before .before .before .before .before .before .before .pre .0 .intervals)
+index-2-of-byte : tie.Need-index-2-of-byte Inv-loop μ-loop
+index-2-of-byte c = omega (arith, c .before .before .before .before .before .before .before .before .before .before .pre .0 .intervals)
 
-wide-requires : tie.Need-wide-requires Inv-loop μ-loop
-wide-requires c κs = tt
+of-byte-requires : tie.Need-of-byte-requires Inv-loop μ-loop
+of-byte-requires c κs = tt
 
 add-below : tie.Need-add-below Inv-loop μ-loop
-add-below c = omega (arith, below-at (c .before .before .before .before .before .before .before .before .before .before .before .before .pre .0) (c .before .before .before .before .before .before .before .before .before .loop .inv .2) (c .before .before .before .before .before .before .before .before .before .before .before .before .pre .1) (omega arith), c .wide .ensures .0)
+add-below c = omega (arith, below-at (c .before .before .before .before .before .before .before .before .before .before .before .before .pre .0) (c .before .before .before .before .before .before .before .before .before .loop .inv .2) (c .before .before .before .before .before .before .before .before .before .before .before .before .pre .1) (omega arith), c .of-byte .ensures .0)
 
 add-i : tie.Need-add-i Inv-loop μ-loop
 add-i c = omega arith
@@ -44,7 +45,7 @@ loop-less : tie.Need-loop-less Inv-loop μ-loop
 loop-less c = omega arith
 
 loop-again : tie.Need-loop-again Inv-loop μ-loop
-loop-again c = (omega arith, omega arith, rising-more _ _ _ (c .before .before .before .before .before .before .before .before .before .loop .inv .2) (c .before .before .before .before .before .lane-of .ensures) (c .before .before .before .before .lay-class .ensures) (c .wide .ensures .0))
+loop-again c = (omega arith, omega arith, rising-more _ _ _ (c .before .before .before .before .before .before .before .before .before .loop .inv .2) (c .before .before .before .before .before .lane-of .ensures) (c .before .before .before .before .lay-class .ensures) (c .of-byte .ensures .0))
 
 same-length : tie.Need-same-length Inv-loop μ-loop
 same-length c = c .before .before .loop .inv .1
@@ -61,10 +62,10 @@ lay-interval-spec =
     loop-holds
     lane-of-requires
     lay-class-requires
-    mul-wide
-    index-1-wide
-    index-2-wide
-    wide-requires
+    mul-of-byte
+    index-1-of-byte
+    index-2-of-byte
+    of-byte-requires
     add-below
     add-i
     loop-less

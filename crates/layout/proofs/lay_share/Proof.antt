@@ -1,3 +1,4 @@
+-- `lay_share` meets its contract: a share of 0 gives no record, an uncut share one, a cut share two (Shares).
 use lib.ListN.{length}
 use mathlib.Core.Path.{ap, _∙_}
 use native.Mathlib.Omega.{arith}

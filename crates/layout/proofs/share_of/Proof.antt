@@ -1,3 +1,4 @@
+-- `share_of` meets its contract: a dose of class i has the share in the array, a dose of another class 0 (Arrays).
 use Prim.Native.Nat.{_+_, _*_}
 use lib.ListN.{getD}
 use Rattle.layout.proofs.Arrays.{share-mine, share-other}

@@ -1,3 +1,4 @@
+-- `slot_of` meets its contract: ticks and parts are what division by W gives and leaves, and no tick is past the week (Shares).
 use mathlib.Core.Path.{refl}
 use native.Mathlib.Nat.{mod-lt}
 use native.Mathlib.Omega.{arith}

@@ -1,3 +1,4 @@
+-- `put_decimal` meets its contract: the digits of the tenth part, then the last digit; each call has one place fewer (Puts).
 use native.Mathlib.Omega.{arith}
 use borrow.Author.Needs.{needs}
 use Rattle.lines.proofs.Puts.{put-no-place, put-digit, put-last, decimal-length}

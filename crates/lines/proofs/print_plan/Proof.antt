@@ -1,3 +1,4 @@
+-- `print_plan` meets its contract: the lines of the records, at most 160 bytes each, and the total behind them (Records).
 use native.Mathlib.Omega.{arith}
 use Rattle.lines.specs.Text.{planText}
 use Rattle.lines.proofs.Puts.{put-length, put-more}

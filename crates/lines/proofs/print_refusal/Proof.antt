@@ -1,3 +1,4 @@
+-- `print_refusal` meets its contract: 9 has five numbers in its line, any other refusal two (Records).
 use Rattle.lines.proofs.Records.{put-nine, put-other}
 use borrow.Author.Needs.{needs}
 use Rattle.lines.proofs.print_refusal.Statement.{statement}

@@ -1,3 +1,4 @@
+-- `put_class` meets its contract: the line's four numbers are the fields of the C record, each read at its place (Records).
 use Rattle.lines.proofs.Records.{put-class-fields}
 use borrow.Author.Needs.{needs}
 use Rattle.lines.proofs.put_class.Statement.{statement}

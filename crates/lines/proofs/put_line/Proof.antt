@@ -1,3 +1,4 @@
+-- `put_line` meets its contract: the word, the numbers and the newline stand one behind the other (Puts).
 use native.Mathlib.Omega.{arith}
 use lib.ListN.{length-set}
 use mathlib.Core.Path.{_∙_}

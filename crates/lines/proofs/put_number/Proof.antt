@@ -1,3 +1,4 @@
+-- `put_number` meets its contract: a space and then the digits, at most 20, stand one behind the other (Puts).
 use native.Mathlib.Omega.{arith}
 use Rattle.lines.proofs.Puts.{put-one, put-more, put-length}
 use lib.ListN.{length-set}

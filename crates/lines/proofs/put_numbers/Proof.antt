@@ -1,3 +1,4 @@
+-- `put_numbers` meets its contract: the numbers passed stand in the buffer, each in at most 21 bytes (Puts).
 use Prim.Native.Nat.{_≤_, _-_}
 use mathlib.Core.Path.{_≡_, refl}
 use native.Mathlib.Omega.{arith}

@@ -1,3 +1,4 @@
+-- `put_record` meets its contract: a record of kind 0x43 has a class's line, any other a slot's (Records).
 use Rattle.lines.proofs.Records.{put-of-class, put-of-slot}
 use borrow.Author.Needs.{needs}
 use Rattle.lines.proofs.put_record.Statement.{statement}

@@ -1,3 +1,4 @@
+-- `put_record_at` meets its contract: the 32 bytes from 32 × i on are record i (Records).
 use Rattle.lines.proofs.Records.{put-at}
 use borrow.Author.Needs.{needs}
 use Rattle.lines.proofs.put_record_at.Statement.{statement}

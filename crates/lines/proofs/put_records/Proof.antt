@@ -1,3 +1,4 @@
+-- `put_records` meets its contract: the lines of the records passed stand in the buffer, at most 160 bytes each (Records).
 use Prim.Native.Nat.{_≤_, _-_}
 use mathlib.Core.Path.{_≡_, refl}
 use native.Mathlib.Omega.{arith}

@@ -1,3 +1,4 @@
+-- `put_slot` meets its contract: the line's seven numbers are fields of the S record, each read at its place (Records).
 use Rattle.lines.proofs.Records.{put-slot-fields}
 use borrow.Author.Needs.{needs}
 use Rattle.lines.proofs.put_slot.Statement.{statement}

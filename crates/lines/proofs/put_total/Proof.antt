@@ -1,3 +1,4 @@
+-- `put_total` meets its contract: the line is the word and the two counts, which fit in 160 bytes.
 use Rattle.lines.specs.Text.{totalText}
 use borrow.Author.Needs.{needs}
 use Rattle.lines.proofs.put_total.Statement.{statement}

@@ -1,3 +1,4 @@
+-- `put_word` meets its contract: the bytes passed stand in the buffer, and every other byte is as before (Puts).
 use Prim.Native.Nat.{_≤_, _-_, _+_}
 use mathlib.Core.Path.{_≡_, refl}
 use native.Mathlib.Omega.{arith}

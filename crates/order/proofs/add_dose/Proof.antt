@@ -1,3 +1,4 @@
+-- `add_dose` meets its contract: the mark is the one of `mark_of`, the order that of `with_dose`, and one D more is counted.
 use Rattle.order.specs.Sheets.{withDoseAt}
 use borrow.Author.Needs.{needs}
 use Rattle.order.proofs.add_dose.Statement.{statement}

@@ -1,3 +1,4 @@
+-- `add_fans` meets its contract: the three fields of the F go into the order, and one F more is counted.
 use mathlib.Core.Path.{refl}
 use Rattle.order.specs.Sheets.{withFans}
 use borrow.Author.Needs.{needs}

@@ -1,5 +1,5 @@
+-- `add_other` meets its contract: an F goes into the sheet, and anything else is what `refused_walk` makes of it (Takes).
 use Rattle.order.proofs.Takes.{no-fans, some-fans}
-use Rattle.order.specs.Sheets.{takenOther}
 use borrow.Author.Needs.{needs}
 use Rattle.order.proofs.add_other.Statement.{statement}
 use Rattle.order.proofs.add_other.Tie as tie

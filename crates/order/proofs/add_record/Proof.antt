@@ -1,3 +1,4 @@
+-- `add_record` meets its contract: a D goes into the sheet, and anything else is what `add_other` makes of it (Takes).
 use mathlib.Core.Path.{ap, _∙_}
 use Rattle.order.specs.Sheets.{taken}
 use Rattle.order.proofs.Takes.{no-dose, some-dose}

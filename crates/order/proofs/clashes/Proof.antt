@@ -1,3 +1,4 @@
+-- `clashes` meets its contract: no dose passed clashes, so the doses left tell what all tell (Laws).
 use Prim.Native.Nat.{_≤_, _-_, _+_}
 use mathlib.Core.Path.{_≡_, refl, sym, _∙_}
 use native.Mathlib.Omega.{arith}
@@ -60,8 +61,6 @@ loop-again c =
     let n = c .before .before .before .before .before .before .before .before .args .t1 .count in
     let e : n - (L .j + 1) ≡ n - L .j - 1 = omega arith in
     (refl, omega arith, rw e (sym (clash-on _ _ _ _ (omega arith) (sym (c .before .dose-clash .ensures) ∙ c .if1 .left)) ∙ L .inv .2))
-
---    (refl, omega arith, rw e (sym (clash-on _ _ _ _ (omega arith) (sym (c .before .dose-clash .ensures) ∙ c .if1 .left)) ∙ L .inv .2))
 
 returns-2 : tie.Need-returns-2 Inv-loop μ-loop
 returns-2 c = sym (clash-none _ _ _ _ (omega arith)) ∙ c .before .loop .inv .2

@@ -1,3 +1,4 @@
+-- `dose_clash` meets its contract: the bays are the same, then each window starts before the other ends.
 use mathlib.Core.Path.{sym}
 use native.Mathlib.Nat.{add-zero}
 use borrow.Author.Tests.{eq-eqb, ne-eqb, le-leb, lt-leb}

@@ -1,3 +1,4 @@
+-- `mark_of` meets its contract: a mark that is set stays; else a clash sets k + 1, and no clash leaves 0.
 use Prim.Native.Nat.{ℕ}
 use mathlib.Core.Path.{refl, sym, _∙_}
 use borrow.Author.Tests.{eq-eqb, ne-eqb}

@@ -1,3 +1,4 @@
+-- `no_order` meets its contract: zeros everywhere hold the order without fans and doses.
 use mathlib.Core.Path.{refl}
 use Rattle.order.specs.Held.{heldOrder, column}
 use Rattle.order.proofs.no_order.Statement.{statement}

@@ -1,3 +1,4 @@
+-- `no_sheet` meets its contract: counts and mark are 0, and the order is the one of zeros.
 use Rattle.order.specs.Sheets.{noSheet}
 use borrow.Author.Needs.{needs}
 use Rattle.order.proofs.no_sheet.Statement.{statement}

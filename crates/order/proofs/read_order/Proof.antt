@@ -1,4 +1,5 @@
-use mathlib.Core.Path.{_≡_, refl, sym, _∙_}
+-- `read_order` meets its contract: 2 by the length, 3 to 5 by the walk over the records, 6 to 8 by what they come to (Settles).
+use mathlib.Core.Path.{sym, _∙_}
 use borrow.Author.Tests.{eq-eqb, ne-eqb, le-leb, lt-leb}
 use Rattle.model.specs.Orders.{readOrder}
 use Rattle.order.specs.Held.{heldReading}

@@ -1,3 +1,4 @@
+-- `refuse` meets its contract: the number and place are those given, and the order is the one of zeros.
 use borrow.Author.Needs.{needs}
 use Rattle.order.proofs.refuse.Statement.{statement}
 use Rattle.order.proofs.refuse.Tie as tie

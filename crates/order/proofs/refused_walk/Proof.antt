@@ -1,5 +1,5 @@
+-- `refused_walk` meets its contract: a refusal gives its number and place, anything else 0, each with the empty sheet (Takes).
 use Rattle.order.proofs.Takes.{no-refusal, refusal}
-use Rattle.order.specs.Sheets.{takenRefused}
 use borrow.Author.Needs.{needs}
 use Rattle.order.proofs.refused_walk.Statement.{statement}
 use Rattle.order.proofs.refused_walk.Tie as tie

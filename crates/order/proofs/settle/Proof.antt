@@ -1,4 +1,5 @@
-use mathlib.Core.Path.{refl, sym, _∙_}
+-- `settle` meets its contract: the tests come in turn: exactly one F, or 6; at most 24 doses, or 7; no mark, or 8.
+use mathlib.Core.Path.{refl, sym}
 use borrow.Author.Tests.{eq-eqb, ne-eqb, le-leb, lt-leb}
 use Rattle.order.specs.declared.Reading.{Reading}
 use Rattle.order.specs.Sheets.{settled}

@@ -1,17 +1,18 @@
+-- `walk` meets its contract: the sheet so far and the records left come to what all come to; a refusal ends the walk (Walks).
 use mathlib.Core.List.{List}
-use Rattle.order.proofs.Walks.{record-part, record-length, counts, stops, goes, ends, empty}
-use Prim.Native.Nat.{ℕ, _≤_, _-_, _+_, _*_, _/_}
-use mathlib.Core.Path.{_≡_, refl, ap, _∙_, sym}
+use Rattle.field.proofs.Records.{record-part, part-length}
+use Rattle.order.proofs.Walks.{counts, stops, goes, ends, empty}
+use Prim.Native.Nat.{ℕ, _≤_, _-_, _+_, _/_}
+use mathlib.Core.Path.{_≡_, refl, ap, _∙_}
 use native.Mathlib.Omega.{arith}
 use native.Mathlib.Nat.{sub-zero}
 use borrow.Author.Needs.{needs}
-use lib.ListN.{length, take, drop, length-take, length-drop}
+use lib.ListN.{length}
 use Rattle.model.specs.Records.{readFrom, recordAt}
 use Rattle.model.specs.Orders.{entryOf}
 use Rattle.order.specs.declared.Walked.{Walked}
 use Rattle.order.specs.Held.{heldEntry}
 use Rattle.order.specs.Sheets.{taken, noSheet, walkedFrom}
-use Rattle.order.proofs.Walks.{record-length, counts, stops, goes, ends, empty}
 use Rattle.order.proofs.walk.Statement.{statement}
 use Rattle.order.proofs.walk.Tie as tie
 
@@ -46,7 +47,7 @@ part-add-record-end c = search needs
 
 add-record-requires : tie.Need-add-record-requires Inv-loop μ-loop
 add-record-requires c κs = (
-  ap length (record-part (c .before .before .before .before .before .args .bytes .now) (c .before .before .loop .k)) ∙ record-length (c .before .before .before .before .before .args .bytes .now) (c .before .before .loop .k) (omega arith),
+  part-length (c .before .before .before .before .before .args .bytes .now) (c .before .before .loop .k) (omega arith),
   omega arith,
   omega arith,
   omega arith,

@@ -1,3 +1,4 @@
+-- `with_dose` meets its contract: an order with 24 doses stays as it is; any other has the dose behind its last.
 use borrow.Author.Tests.{le-leb, lt-leb}
 use Rattle.order.specs.Sheets.{withDose}
 use borrow.Author.Needs.{needs}

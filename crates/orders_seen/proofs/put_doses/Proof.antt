@@ -1,3 +1,4 @@
+-- `put_doses` meets its contract: the bay is k + 1 and the buffer keeps its length, so every dose has its 32 bytes.
 use Prim.Native.Nat.{_≤_, _-_, _+_}
 use mathlib.Core.Path.{_≡_}
 use lib.ListN.{length}

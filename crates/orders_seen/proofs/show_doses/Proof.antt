@@ -1,5 +1,5 @@
+-- `show_doses` meets its contract: every index is below the count, which is at most 24.
 use Prim.Native.Nat.{_≤_, _-_}
-use native.Mathlib.Omega.{arith}
 use borrow.Author.Needs.{needs}
 use Rattle.orders_seen.proofs.show_doses.Statement.{statement}
 use Rattle.orders_seen.proofs.show_doses.Tie as tie

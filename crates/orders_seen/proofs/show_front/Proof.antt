@@ -1,3 +1,4 @@
+-- `show_front` meets its contract: the first `len` bytes are shown only where there are so many.
 use mathlib.Core.Path.{sym}
 use lib.Seq.{length-take-le}
 use borrow.Author.Needs.{needs}

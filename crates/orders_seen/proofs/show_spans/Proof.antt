@@ -1,7 +1,6 @@
+-- `show_spans` meets its contract: the order has at most 24 doses, and the index rises to 47, where the loop ends.
 use Prim.Native.Nat.{_≤_, _-_}
 use borrow.Author.Needs.{needs}
-use native.Mathlib.Omega.{arith}
-use mathlib.Core.Logic.{⊎-elim}
 use Rattle.orders_seen.proofs.show_spans.Statement.{statement}
 use Rattle.orders_seen.proofs.show_spans.Tie as tie
 

@@ -1,3 +1,4 @@
+-- `spoilt` meets its contract: every index is below 32, so the byte to spoil lies in its record.
 use Prim.Native.Nat.{_≤_, _-_}
 use borrow.Author.Needs.{needs}
 use Rattle.orders_seen.proofs.spoilt.Statement.{statement}

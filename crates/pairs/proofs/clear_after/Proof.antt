@@ -7,7 +7,7 @@ use Rattle.model.specs.Plans as plans
 use Rattle.model.proofs.Fractions.{compare≤}
 use Rattle.plan_records.specs.Held.{asSlot}
 use Rattle.clauses.specs.Tests.{ApartAfter, placeIn, slotIn}
-use Rattle.clauses.proofs.Loops.{at-end}
+use Rattle.steps.proofs.Loops.{at-end}
 use Rattle.clauses.proofs.Tell.{tells-not, tells-off, tells-on, tells-was}
 use Rattle.pairs.proofs.Turns.{apart-more, in-interval, past-interval}
 use borrow.Author.Needs.{needs}

@@ -1,3 +1,4 @@
+-- `plan` meets its contract: 1 by the buffer's length, 2 to 8 by the reading, then 9 or the plan (Answering).
 use Rattle.model.proofs.Orders.{read-fits}
 use Rattle.order.proofs.Settles.{was-read, was-refused}
 use Rattle.plan.proofs.Answering.{nine-or-done, one, two-to-eight}

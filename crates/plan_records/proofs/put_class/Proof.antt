@@ -1,3 +1,4 @@
+-- `put_class` meets its contract: the head, W and P, and 20 zeros, one behind the other, are the 32 bytes of a C.
 use mathlib.Core.Path.{refl}
 use Rattle.field.proofs.Laws.{join}
 use Rattle.model.specs.Records.{numberBytes, recordBytes}

@@ -1,3 +1,4 @@
+-- `put_head` meets its contract: one byte, one byte and two bytes, one behind the other, are one run of four.
 use mathlib.Core.Path.{refl}
 use Rattle.field.proofs.Laws.{join}
 use Rattle.model.specs.Records.{numberBytes}

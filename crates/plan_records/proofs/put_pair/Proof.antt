@@ -1,3 +1,4 @@
+-- `put_pair` meets its contract: four bytes and the four behind them are one run of eight.
 use mathlib.Core.Path.{refl}
 use Rattle.field.proofs.Laws.{join}
 use Rattle.model.specs.Records.{numberBytes}

@@ -1,3 +1,4 @@
+-- `put_slot` meets its contract: the head, three pairs, the class and three zeros, one behind the other, are the 32 bytes of an S.
 use mathlib.Core.Path.{refl}
 use Rattle.field.proofs.Laws.{join}
 use Rattle.model.specs.Records.{numberBytes, recordBytes}

@@ -1,3 +1,4 @@
+-- `main` meets its contract: the text's length that `print` gives back lies within the text buffer.
 use mathlib.Core.Path.{sym}
 use lib.Seq.{length-take-le}
 use borrow.Author.Needs.{needs}

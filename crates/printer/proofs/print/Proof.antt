@@ -1,3 +1,4 @@
+-- `print` meets its contract: no plan has over 1,481 records, so plan and text have room; 0 prints the plan, else the refusal (Printing).
 use Rattle.printer.proofs.Printing.{few-records, prints-refusal, prints-plan}
 use native.Mathlib.Omega.{arith}
 use borrow.Author.Needs.{needs}

@@ -4,7 +4,8 @@ use Prim.Native.Nat.{ℕ, _+_, _-_, _*_, _≤_}
 use lib.ListN.{getD}
 use Rattle.model.specs.Sets.{sum}
 use Rattle.model.specs.Sets as sets
-use Rattle.clauses.proofs.Loops.{at-end, fan-seconds, sum-more, sum-none}
+use Rattle.steps.proofs.Loops.{at-end, sum-more, sum-none}
+use Rattle.steps.proofs.Products.{fan-seconds}
 use borrow.Author.Needs.{needs}
 use native.Mathlib.Omega.{arith}
 use Rattle.rates.proofs.fan_time.Statement.{statement}

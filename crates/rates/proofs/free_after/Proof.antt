@@ -2,7 +2,7 @@
 use mathlib.Core.Path.{_≡_, refl}
 use Prim.Native.Nat.{ℕ, _-_, _<_, _≤_}
 use lib.ListN.{getD, length}
-use Rattle.clauses.proofs.Loops.{stored}
+use Rattle.steps.proofs.Loops.{stored}
 use borrow.Author.Needs.{needs}
 use native.Mathlib.Omega.{arith}
 use Rattle.rates.proofs.free_after.Statement.{statement}
@@ -45,7 +45,7 @@ loop-less : tie.Need-loop-less Inv-loop μ-loop
 loop-less c = search needs
 
 loop-again : tie.Need-loop-again Inv-loop μ-loop
-loop-again c = (search needs, omega arith, stored (λ k. getD (c .before .before .before .args .t1) k 0 - getD (c .before .before .before .args .t2) k 0) (c .before .before .loop .left) (c .before .before .loop .j) _ (omega arith) (c .before .before .loop .inv .2) (c .less .ensures))
+loop-again c = (search needs, omega arith, stored 0 (λ k. getD (c .before .before .before .args .t1) k 0 - getD (c .before .before .before .args .t2) k 0) (c .before .before .loop .left) (c .before .before .loop .j) _ (omega arith) (c .before .before .loop .inv .2) (c .less .ensures))
 
 returns : tie.Need-returns Inv-loop μ-loop
 returns c =

@@ -6,7 +6,7 @@ use lib.Dec.{leb}
 use lib.ListN.{getD, length}
 use Rattle.model.specs.Sets.{on, weight}
 use Rattle.clauses.specs.Tests.{Opens, setsOf}
-use Rattle.clauses.proofs.Loops.{at-end, stored, stored-most}
+use Rattle.steps.proofs.Loops.{at-end, stored, stored-most}
 use borrow.Author.Needs.{needs}
 use native.Mathlib.Omega.{arith}
 use Rattle.rates.proofs.open_row.Statement.{statement}
@@ -69,7 +69,7 @@ loop-again c =
       search needs,
       omega arith,
       record {
-        smaller = stored
+        smaller = stored 0
             (λ (j : ℕ). min (weight (A .doses) (λ k. on (leb (getD (A .release .now) k 0) (getD (A .instants .now) j 0) && leb (getD (A .instants .now) (j + 1) 0) (getD (A .deadline .now) k 0)) 1) (setsOf (A .numbers .now) (A .i))) (getD (A .t8) j 0))
             (L .row) (L .j) _ (omega arith) (L .inv .2 .smaller) (e ∙ ap (λ (x : ℕ). min x (getD (A .t8) (L .j) 0)) (a .0));
         small = stored-most 24 (L .row) (L .j) _ (omega arith) (L .inv .2 .small) (omega (arith, e, a .1));

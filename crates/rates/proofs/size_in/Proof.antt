@@ -4,7 +4,7 @@ use Prim.Native.Nat.{ℕ, _+_, _-_, _≤_}
 use lib.Dec.{eqb}
 use Rattle.model.specs.Sets.{weight}
 use Rattle.clauses.specs.Tests.{setsOf}
-use Rattle.clauses.proofs.Loops.{at-end, weight-more, weight-none}
+use Rattle.steps.proofs.Loops.{at-end, weight-more, weight-none}
 use borrow.Author.Needs.{needs}
 use native.Mathlib.Omega.{arith}
 use Rattle.rates.proofs.size_in.Statement.{statement}

@@ -5,8 +5,8 @@ use lib.ListN.{getD}
 use native.Mathlib.Omega.{arith}
 use borrow.Author.Needs.{needs}
 use borrow.Author.Count.{below-more}
-use Rattle.share.specs.Share.{got}
-use Rattle.share.proofs.Laws.{not-both}
+use Rattle.chains.specs.Chains.{got}
+use Rattle.steps.proofs.Tests.{not-both}
 use Rattle.share.proofs.all_met.Statement.{statement}
 use Rattle.share.proofs.all_met.Tie as tie
 

@@ -5,7 +5,7 @@ use lib.ListN.{length, getD, length-set}
 use native.Mathlib.Omega.{arith}
 use lib.Seq.{getD-set-same, getD-set-other}
 use borrow.Author.Needs.{needs}
-use Rattle.share.proofs.Laws.{alike}
+use Rattle.steps.proofs.Tests.{alike}
 use Rattle.share.proofs.clear.Statement.{statement}
 use Rattle.share.proofs.clear.Tie as tie
 

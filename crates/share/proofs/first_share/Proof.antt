@@ -30,23 +30,23 @@ shared-slice-read-most c = search needs
 interval-total-requires : tie.Need-interval-total-requires
 interval-total-requires c κs = (c .before .before .before .before .before .before .before .pre .0 .shares, c .before .before .before .before .before .before .before .pre .3, c .before .before .before .before .before .before .before .pre .1 .held _ (c .before .before .before .before .before .before .before .pre .3))
 
-gap-requires : tie.Need-gap-requires
-gap-requires c κs = search needs
+less-requires : tie.Need-less-requires
+less-requires c κs = search needs
 
-mul-gap : tie.Need-mul-gap
-mul-gap c = search needs
+mul-less : tie.Need-mul-less
+mul-less c = search needs
 
-shared-slice-read-gap : tie.Need-shared-slice-read-gap
-shared-slice-read-gap c = search needs
+shared-slice-read-less : tie.Need-shared-slice-read-less
+shared-slice-read-less c = search needs
 
-mul-gap-2 : tie.Need-mul-gap-2
-mul-gap-2 c = search needs
+mul-less-2 : tie.Need-mul-less-2
+mul-less-2 c = search needs
 
-slice-read-gap : tie.Need-slice-read-gap
-slice-read-gap c = search needs
+slice-read-less : tie.Need-slice-read-less
+slice-read-less c = search needs
 
-gap-requires-2 : tie.Need-gap-requires-2
-gap-requires-2 c κs = search needs
+less-requires-2 : tie.Need-less-requires-2
+less-requires-2 c κs = search needs
 
 smaller-requires : tie.Need-smaller-requires
 smaller-requires c κs = search needs
@@ -61,7 +61,9 @@ slice-read-shares : tie.Need-slice-read-shares
 slice-read-shares c = search needs
 
 add-shares : tie.Need-add-shares
-add-shares c = let A = c .before .before .before .before .before .before .before .before .before .before .before .before .before .before .before .args in omega (arith, c .before .before .before .before .before .shared-slice-known5 .given (A .d * 47 + A .j), c .before .before .before .before .before .before .before .before .before .before .before .before .before .before .before .pre .1 .roomy (A .d) (A .j) (c .before .before .before .before .before .before .before .before .before .before .before .before .before .before .before .pre .2) (c .before .before .before .before .before .before .before .before .before .before .before .before .before .before .before .pre .3), c .before .before .before .gap2 .ensures, c .before .before .smaller .ensures .0, c .before .smaller2 .ensures .1)
+add-shares c =
+    let C = c .before .before .before .before .before .before .before .before .before .before .before .before .before .before .before in
+    omega (arith, c .before .before .before .before .before .shared-slice-known5 .given (C .args .d * 47 + C .args .j), C .pre .1 .roomy (C .args .d) (C .args .j) (C .pre .2) (C .pre .3), c .before .before .before .less2 .ensures, c .before .before .smaller .ensures, c .before .smaller2 .ensures)
 
 mul-shares-2 : tie.Need-mul-shares-2
 mul-shares-2 c = search needs
@@ -70,16 +72,20 @@ slice-write-shares : tie.Need-slice-write-shares
 slice-write-shares c = search needs
 
 sub-result : tie.Need-sub-result
-sub-result c = omega (arith, c .before .smaller2 .ensures .0)
+sub-result c = omega (arith, c .before .smaller2 .ensures)
 
 same-length : tie.Need-same-length
 same-length c = search needs
 
 returns-2 : tie.Need-returns-2
 returns-2 c =
-    let A = c .before .before .before .before .before .before .before .before .before .before .before .before .before .before .before .args in
-    took-more (A .d) (A .j) (A .miss) (c .before .smaller2 .result) (c .before .before .before .before .before .before .before .before .before .before .before .before .before .before .before .pre .2) (c .before .before .before .before .before .before .before .before .before .before .before .before .before .before .before .pre .3) (c .before .before .before .before .before .before .before .before .before .before .before .before .before .before .before .pre .0 .shares) (c .before .before .before .before .before .before .before .before .before .before .before .before .before .before .before .pre .1)
-    (c .before .smaller2 .ensures .0) (omega (arith, c .before .smaller2 .ensures .1, c .before .before .smaller .ensures .0, c .before .before .before .gap2 .ensures)) (omega (arith, c .before .smaller2 .ensures .1, c .before .before .smaller .ensures .1, c .before .before .before .before .before .before .gap .ensures, c .before .before .before .before .before .before .before .interval-total .ensures))
+    let C = c .before .before .before .before .before .before .before .before .before .before .before .before .before .before .before in
+    let inner = c .before .before .smaller .ensures in
+    let outer = c .before .smaller2 .ensures in
+    took-more (C .args .d) (C .args .j) (C .args .miss) (c .before .smaller2 .result) (C .pre .2) (C .pre .3) (C .pre .0 .shares) (C .pre .1)
+    (omega (arith, outer))
+    (omega (arith, outer, inner, c .before .before .before .less2 .ensures))
+    (omega (arith, outer, inner, c .before .before .before .before .before .before .less .ensures, c .before .before .before .before .before .before .before .interval-total .ensures))
 
 pub first-share-spec : {M : Type 1} → statement M
 first-share-spec =
@@ -93,12 +99,12 @@ first-share-spec =
     mul-most
     shared-slice-read-most
     interval-total-requires
-    gap-requires
-    mul-gap
-    shared-slice-read-gap
-    mul-gap-2
-    slice-read-gap
-    gap-requires-2
+    less-requires
+    mul-less
+    shared-slice-read-less
+    mul-less-2
+    slice-read-less
+    less-requires-2
     smaller-requires
     smaller-requires-2
     mul-shares

@@ -4,7 +4,8 @@ use mathlib.Core.Path.{_≡_}
 use lib.ListN.{length, getD}
 use native.Mathlib.Omega.{arith}
 use borrow.Author.Needs.{needs}
-use Rattle.share.specs.Share.{got, Within}
+use Rattle.chains.specs.Chains.{got}
+use Rattle.share.specs.Share.{Within}
 use Rattle.share.proofs.Laws.{within-took}
 use Rattle.share.proofs.first_shares.Statement.{statement}
 use Rattle.share.proofs.first_shares.Tie as tie

@@ -22,8 +22,8 @@ shared-slice-read-need c = search needs
 dose-total-requires : tie.Need-dose-total-requires Inv-loop μ-loop
 dose-total-requires c κs = (c .before .before .before .before .before .pre .0, c .before .loop-test .taken, c .before .before .before .before .before .pre .2 _ (c .before .loop-test .taken))
 
-gap-requires : tie.Need-gap-requires Inv-loop μ-loop
-gap-requires c κs = search needs
+less-requires : tie.Need-less-requires Inv-loop μ-loop
+less-requires c κs = search needs
 
 larger-requires : tie.Need-larger-requires Inv-loop μ-loop
 larger-requires c κs = search needs
@@ -50,7 +50,7 @@ largest-shortage-spec =
     mul-need
     shared-slice-read-need
     dose-total-requires
-    gap-requires
+    less-requires
     larger-requires
     add-k
     loop-less

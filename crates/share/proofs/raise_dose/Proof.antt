@@ -5,8 +5,9 @@ use mathlib.Core.Logic.{_≢_}
 use lib.ListN.{length}
 use native.Mathlib.Omega.{arith}
 use borrow.Author.Needs.{needs}
-use Rattle.share.specs.Share.{got, Bounded, Kept}
-use Rattle.share.proofs.Laws.{kept-refl, kept-trans, kept-drop, exhausted-same, exhausted-none}
+use Rattle.chains.specs.Chains.{got, Bounded, Kept}
+use Rattle.chains.proofs.Laws.{kept-refl, kept-trans, exhausted-none}
+use Rattle.share.proofs.Laws.{kept-drop, exhausted-same}
 use Rattle.share.proofs.raise_dose.Statement.{statement}
 use Rattle.share.proofs.raise_dose.Tie as tie
 

@@ -4,7 +4,7 @@ use mathlib.Core.Path.{_≡_, refl}
 use lib.ListN.{length, getD, length-set}
 use native.Mathlib.Omega.{arith}
 use borrow.Author.Needs.{needs}
-use Rattle.classes.proofs.Loops.{stored}
+use Rattle.steps.proofs.Loops.{stored}
 use Rattle.classes.proofs.table.counts_of.Statement.{statement}
 use Rattle.classes.proofs.table.counts_of.Tie as tie
 

@@ -5,7 +5,7 @@ use lib.ListN.{length, getD, length-set}
 use native.Mathlib.Omega.{arith}
 use borrow.Author.Needs.{needs}
 use Rattle.model.specs.Sets.{sum}
-use Rattle.classes.proofs.Loops.{stored}
+use Rattle.steps.proofs.Loops.{stored}
 use Rattle.classes.specs.Phase.{rowAt}
 use Rattle.classes.proofs.table.free_fans.Statement.{statement}
 use Rattle.classes.proofs.table.free_fans.Tie as tie

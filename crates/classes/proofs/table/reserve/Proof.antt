@@ -3,7 +3,7 @@ use mathlib.Core.Path.{_∙_}
 use lib.ListN.{length-set}
 use native.Mathlib.Omega.{arith}
 use borrow.Author.Needs.{needs}
-use Rattle.classes.proofs.Loops.{row-same, row-other}
+use Rattle.classes.proofs.Rows.{row-same, row-other}
 use Rattle.classes.proofs.table.reserve.Statement.{statement}
 use Rattle.classes.proofs.table.reserve.Tie as tie
 

@@ -3,9 +3,10 @@ use Prim.Native.Nat.{_<_, _≤_, _-_, _^_}
 use mathlib.Core.Path.{_≡_, refl}
 use native.Mathlib.Omega.{arith}
 use borrow.Author.Needs.{needs}
-use Rattle.model.specs.Sets.{sum, on, weight}
+use Rattle.model.specs.Sets.{weight}
 use Rattle.classes.specs.Phase.{classOf}
-use Rattle.classes.proofs.Loops.{weight-start, bits-next, bit-most}
+use Rattle.steps.proofs.Loops.{weight-none}
+use Rattle.steps.proofs.Bits.{bits-next, bit-most}
 use Rattle.classes.proofs.top.first_set.Statement.{statement}
 use Rattle.classes.proofs.top.first_set.Tie as tie
 
@@ -16,7 +17,7 @@ abbrev μ-loop : tie.MeasureT-loop
 μ-loop doses numbers s₀ bit₀ k₀ s bit k = doses - k
 
 loop-holds : tie.Need-loop-holds Inv-loop μ-loop
-loop-holds c = (omega arith, weight-start _ _, refl, omega arith)
+loop-holds c = (omega arith, weight-none _ _, refl, omega arith)
 
 array-read-on : tie.Need-array-read-on Inv-loop μ-loop
 array-read-on c = search needs
@@ -28,7 +29,7 @@ add-sum : tie.Need-add-sum Inv-loop μ-loop
 add-sum c =
     let A = c .before .before .before .args in
     let L = c .before .before .loop in
-    let w = bits-next (L .k) (L .sum) (L .bit) (c .on .result) (classOf (A .t1) 0) (L .inv .1) (L .inv .2) (L .inv .3) (c .on .ensures) in
+    let w = bits-next (L .k) (L .sum) (L .bit) (c .on .result) (classOf (A .t1) 0) (L .inv .1) (L .inv .2) (L .inv .3) (c .on .ensures .0) in
     omega (arith, w .2, L .inv .2, bit-most (L .k) (omega arith))
 
 mul-bit : tie.Need-mul-bit Inv-loop μ-loop
@@ -44,7 +45,7 @@ loop-again : tie.Need-loop-again Inv-loop μ-loop
 loop-again c =
     let A = c .before .before .before .args in
     let L = c .before .before .loop in
-    let w = bits-next (L .k) (L .sum) (L .bit) (c .on .result) (classOf (A .t1) 0) (L .inv .1) (L .inv .2) (L .inv .3) (c .on .ensures) in
+    let w = bits-next (L .k) (L .sum) (L .bit) (c .on .result) (classOf (A .t1) 0) (L .inv .1) (L .inv .2) (L .inv .3) (c .on .ensures .0) in
     (omega arith, w .0, w .1, w .2)
 
 returns : tie.Need-returns Inv-loop μ-loop

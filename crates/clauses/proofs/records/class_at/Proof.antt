@@ -4,7 +4,7 @@ use mathlib.Core.List.{List}
 use Prim.Native.Nat.{ℕ}
 use Rattle.model.specs.Plans.{classOf}
 use Rattle.clauses.specs.Tests.{classIn}
-use Rattle.clauses.proofs.Tell.{record-length, record-part}
+use Rattle.field.proofs.Records.{record-part, part-length}
 use native.Mathlib.Omega.{arith}
 use borrow.Author.Needs.{needs}
 use Rattle.clauses.proofs.records.class_at.Statement.{statement}
@@ -26,7 +26,7 @@ part-class-in-end : tie.Need-part-class-in-end
 part-class-in-end c = search needs
 
 class-in-requires : tie.Need-class-in-requires
-class-in-requires c κs = record-length (c .before .before .args .plan .now) (c .before .before .args .i) (omega arith)
+class-in-requires c κs = part-length (c .before .before .args .plan .now) (c .before .before .args .i) (omega arith)
 
 returns : tie.Need-returns
 unfolding classIn

@@ -3,7 +3,8 @@ use Prim.Native.Nat.{ℕ, _-_, _<_, _≤_}
 use borrow.Author.Count.{below-more}
 use Rattle.model.specs.Records.{recordAt}
 use Rattle.clauses.specs.Tests.{ClassRow}
-use Rattle.clauses.proofs.Tell.{record-length, record-part, tells-not, tells-off, tells-on, tells-was}
+use Rattle.field.proofs.Records.{record-part, part-length}
+use Rattle.clauses.proofs.Tell.{tells-not, tells-off, tells-on, tells-was}
 use borrow.Author.Needs.{needs}
 use native.Mathlib.Omega.{arith}
 use Rattle.clauses.proofs.records.class_rows.Statement.{statement}
@@ -34,7 +35,7 @@ part-is-class-end : tie.Need-part-is-class-end Inv-loop μ-loop
 part-is-class-end c = search needs
 
 is-class-requires : tie.Need-is-class-requires Inv-loop μ-loop
-is-class-requires c κs = record-length (c .before .before .before .before .args .plan .now) (c .before .before .loop .i) (omega arith)
+is-class-requires c κs = part-length (c .before .before .before .before .args .plan .now) (c .before .before .loop .i) (omega arith)
 
 returns : tie.Need-returns Inv-loop μ-loop
 returns c = tells-off (λ h. tells-not (c .before .is-class .ensures) (c .if1 .taken) (rw (record-part (c .before .before .before .before .before .before .args .plan .now) (c .before .before .before .before .loop .i)) (h (c .before .before .before .before .loop .i) (omega arith))))

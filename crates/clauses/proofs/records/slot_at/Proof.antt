@@ -4,7 +4,7 @@ use mathlib.Core.List.{List}
 use Prim.Native.Nat.{ℕ}
 use Rattle.model.specs.Plans.{slotOf}
 use Rattle.clauses.specs.Tests.{slotIn}
-use Rattle.clauses.proofs.Tell.{record-length, record-part}
+use Rattle.field.proofs.Records.{record-part, part-length}
 use native.Mathlib.Omega.{arith}
 use borrow.Author.Needs.{needs}
 use Rattle.clauses.proofs.records.slot_at.Statement.{statement}
@@ -26,7 +26,7 @@ part-slot-in-end : tie.Need-part-slot-in-end
 part-slot-in-end c = search needs
 
 slot-in-requires : tie.Need-slot-in-requires
-slot-in-requires c κs = record-length (c .before .before .args .plan .now) (c .before .before .args .i) (omega arith)
+slot-in-requires c κs = part-length (c .before .before .args .plan .now) (c .before .before .args .i) (omega arith)
 
 returns : tie.Need-returns
 unfolding slotIn

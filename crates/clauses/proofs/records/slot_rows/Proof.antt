@@ -5,7 +5,8 @@ use lib.ListN.{length}
 use borrow.Author.Count.{below-more}
 use Rattle.model.specs.Records.{recordAt}
 use Rattle.clauses.specs.Tests.{SlotRow}
-use Rattle.clauses.proofs.Tell.{record-length, record-part, tells-not, tells-off, tells-on, tells-was}
+use Rattle.field.proofs.Records.{record-part, part-length}
+use Rattle.clauses.proofs.Tell.{tells-not, tells-off, tells-on, tells-was}
 use borrow.Author.Needs.{needs}
 use native.Mathlib.Omega.{arith}
 use Rattle.clauses.proofs.records.slot_rows.Statement.{statement}
@@ -36,7 +37,7 @@ part-is-slot-end : tie.Need-part-is-slot-end Inv-loop μ-loop
 part-is-slot-end c = search needs
 
 is-slot-requires : tie.Need-is-slot-requires Inv-loop μ-loop
-is-slot-requires c κs = record-length (c .before .before .before .before .args .plan .now) (c .before .before .loop .i) (omega arith)
+is-slot-requires c κs = part-length (c .before .before .before .before .args .plan .now) (c .before .before .loop .i) (omega arith)
 
 returns : tie.Need-returns Inv-loop μ-loop
 returns c = tells-off (λ h. tells-not (c .before .is-slot .ensures) (c .if1 .taken) (rw (record-part (c .before .before .before .before .before .before .args .plan .now) (c .before .before .before .before .loop .i)) (h (c .before .before .before .before .loop .i) (omega arith) (omega arith))))

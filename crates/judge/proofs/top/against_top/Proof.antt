@@ -3,7 +3,8 @@ use Prim.Native.Nat.{_<_}
 use Rattle.model.specs.Answers.{done}
 use Rattle.plan_records.specs.Held.{asClass}
 use Rattle.judge.specs.Verdict.{slow}
-use Rattle.judge.proofs.OfOrder.{few-doses, leader-fast, leader-slow}
+use Rattle.order.proofs.Fields.{few-doses}
+use Rattle.judge.proofs.OfOrder.{leader-fast, leader-slow}
 use native.Mathlib.Omega.{arith}
 use borrow.Author.Needs.{needs}
 use Rattle.judge.proofs.top.against_top.Statement.{statement}

@@ -2,9 +2,9 @@
 use mathlib.Core.Path.{_≡_, refl}
 use Prim.Native.Nat.{ℕ, _-_, _<_, _≤_, _^_}
 use Rattle.model.specs.Sets.{weight}
-use Rattle.classes.proofs.Loops.{bits-next, bit-most}
+use Rattle.steps.proofs.Bits.{bits-next, bit-most}
 use Rattle.clauses.specs.Tests.{setsOf}
-use Rattle.clauses.proofs.Loops.{at-end, weight-none}
+use Rattle.steps.proofs.Loops.{at-end, weight-none}
 use borrow.Author.Needs.{needs}
 use native.Mathlib.Omega.{arith}
 use Rattle.judge.proofs.top.first_set.Statement.{statement}

@@ -1,3 +1,4 @@
+-- `dose_blank` meets its contract: byte 1, then the bytes from 16 on, are asked to be zero.
 use mathlib.Core.Path.{_∙_, sym}
 use mathlib.Core.Bool.{and-true}
 use Rattle.model.specs.Records.{blankAt}

@@ -1,3 +1,4 @@
+-- `dose_entry` meets its contract: a fault of the zeros or the ranges is the refusal; without one the D's fields stand (Takes).
 use mathlib.Core.Path.{ap, _∙_}
 use Rattle.model.specs.Orders.{doseFits}
 use Rattle.order.specs.declared.Entry.the-variants as is
@@ -7,12 +8,6 @@ use Rattle.order.proofs.Takes.{fault-of, faulty, faultless}
 use borrow.Author.Needs.{needs}
 use Rattle.order.proofs.record.dose_entry.Statement.{statement}
 use Rattle.order.proofs.record.dose_entry.Tie as tie
-use Rattle.order.proofs.record.dose_entry.Reads as reads
-use Rattle.order.proofs.record.dose_entry.Lts as lts
-use Rattle.order.proofs.record.dose_blank.Reads as dose-blank-reads
-use Rattle.order.proofs.record.dose_fits.Reads as dose-fits-reads
-use Rattle.order.proofs.record.dose_in.Reads as dose-in-reads
-use Rattle.order.proofs.record.fault.Reads as fault-reads
 
 dose-in-requires : tie.Need-dose-in-requires
 dose-in-requires c κs = search needs

@@ -1,3 +1,4 @@
+-- `dose_fits` meets its contract: bay, release, deadline and grams are asked in turn, each for its range.
 use mathlib.Core.Path.{sym}
 use borrow.Author.Tests.{le-leb, lt-leb}
 use Rattle.order.proofs.Cases.{was-off, was-on, and-off, and-on}

@@ -1,3 +1,4 @@
+-- `dose_in` meets its contract: the fields of a D record, each read at its place.
 use Rattle.model.specs.Records.{fieldsAt}
 use borrow.Author.Needs.{needs}
 use Rattle.order.proofs.record.dose_in.Statement.{statement}

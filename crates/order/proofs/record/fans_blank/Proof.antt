@@ -1,3 +1,4 @@
+-- `fans_blank` meets its contract: bytes 2 and 3, then the bytes from 12 on, are asked to be zero.
 use mathlib.Core.Path.{_∙_, sym}
 use mathlib.Core.Bool.{and-true}
 use Rattle.model.specs.Records.{blankAt}

@@ -1,3 +1,4 @@
+-- `fans_entry` meets its contract: a fault of the zeros or the ranges is the refusal; without one the F's fields stand (Takes).
 use mathlib.Core.Path.{ap, _∙_}
 use Rattle.model.specs.Orders.{fansFit}
 use Rattle.order.specs.declared.Entry.the-variants as is
@@ -7,12 +8,6 @@ use Rattle.order.proofs.Takes.{fault-of, faulty, faultless}
 use borrow.Author.Needs.{needs}
 use Rattle.order.proofs.record.fans_entry.Statement.{statement}
 use Rattle.order.proofs.record.fans_entry.Tie as tie
-use Rattle.order.proofs.record.fans_entry.Reads as reads
-use Rattle.order.proofs.record.fans_entry.Lts as lts
-use Rattle.order.proofs.record.fans_blank.Reads as fans-blank-reads
-use Rattle.order.proofs.record.fans_fit.Reads as fans-fit-reads
-use Rattle.order.proofs.record.fans_in.Reads as fans-in-reads
-use Rattle.order.proofs.record.fault.Reads as fault-reads
 
 fans-in-requires : tie.Need-fans-in-requires
 fans-in-requires c κs = search needs

@@ -1,3 +1,4 @@
+-- `fans_fit` meets its contract: fans, top grams and top seconds are asked in turn, each for its range.
 use Rattle.order.proofs.Cases.{was-off, was-on, and-off, and-on}
 use borrow.Author.Needs.{needs}
 use Rattle.order.proofs.record.fans_fit.Statement.{statement}

@@ -1,3 +1,4 @@
+-- `fans_in` meets its contract: the fields of an F record, each read at its place.
 use Rattle.model.specs.Records.{fieldsAt}
 use borrow.Author.Needs.{needs}
 use Rattle.order.proofs.record.fans_in.Statement.{statement}

@@ -1,3 +1,4 @@
+-- `inside` meets its contract: the lower end is asked first, then the upper.
 use borrow.Author.Tests.{le-leb, lt-leb}
 use Rattle.order.proofs.record.inside.Statement.{statement}
 use Rattle.order.proofs.record.inside.Tie as tie

@@ -1,3 +1,4 @@
+-- `record_at` meets its contract: the kind decides: 0x46 is read as an F, 0x44 as a D, and any other kind is 3.
 use mathlib.Core.Path.{refl, sym}
 use borrow.Author.Tests.{eq-eqb, ne-eqb}
 use Rattle.model.specs.Orders.{entryOf}

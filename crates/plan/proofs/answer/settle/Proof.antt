@@ -1,3 +1,4 @@
+-- `settle` meets its contract: a first class above the top rate is 9 with no byte written; else the plan is written (Answering).
 use Rattle.plan.proofs.Answering.{slow-enough, too-fast}
 use borrow.Author.Needs.{needs}
 use Rattle.plan.proofs.answer.settle.Statement.{statement}

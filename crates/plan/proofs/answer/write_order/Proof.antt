@@ -1,7 +1,9 @@
+-- `write_order` meets its contract: the tables hold the order's classes and valid shares (Tabling), and its plan has room (Holding).
 use mathlib.Core.Path.{_≡_}
 use lib.ListN.{length}
 use Rattle.plan.proofs.Holding.{filled, roomy}
-use Rattle.plan.proofs.Tabling.{few-doses, tables-hold}
+use Rattle.order.proofs.Fields.{few-doses}
+use Rattle.plan.proofs.Tabling.{tables-hold}
 use Rattle.plan.proofs.Answering.{written}
 use borrow.Author.Needs.{needs}
 use Rattle.plan.proofs.answer.write_order.Statement.{statement}

@@ -1,8 +1,9 @@
+-- `narrow` meets its contract: every place passed has the remainder of its number by 4,294,967,296.
 use mathlib.Core.Path.{_≡_, refl}
 use Prim.Native.Nat.{ℕ, _-_, _%_, _≤_, _<_}
 use native.Mathlib.Omega.{arith}
 use lib.ListN.{getD, length}
-use Rattle.plan.proofs.Tabling.{one-more}
+use Rattle.steps.proofs.Loops.{stored}
 use borrow.Author.Needs.{needs}
 use Rattle.plan.proofs.tables.narrow.Statement.{statement}
 use Rattle.plan.proofs.tables.narrow.Tie as tie
@@ -38,7 +39,7 @@ loop-less : tie.Need-loop-less Inv-loop μ-loop
 loop-less c = search needs
 
 loop-again : tie.Need-loop-again Inv-loop μ-loop
-loop-again c = (omega arith, search needs, one-more (c .before .loop .numbers) (λ k. getD (c .before .before .args .t1) k 0 % 4294967296) (c .before .loop .inv .2) (omega arith) refl)
+loop-again c = (omega arith, search needs, stored 0 (λ k. getD (c .before .before .args .t1) k 0 % 4294967296) (c .before .loop .numbers) _ _ (omega arith) (c .before .loop .inv .2) refl)
 
 returns : tie.Need-returns Inv-loop μ-loop
 returns c = λ i l. c .before .loop .inv .2 i (omega arith)

@@ -1,3 +1,4 @@
+-- `class_at` meets its contract: the number is i + 1, the doses are counted by `doses_in`, W and P stand at place i.
 use Rattle.plan.specs.Held.{classFrom}
 use borrow.Author.Needs.{needs}
 use Rattle.plan.proofs.write.class_at.Statement.{statement}

@@ -1,3 +1,4 @@
+-- `put_classes` meets its contract: the C records of the classes passed are written, and record i is the next (Writing).
 use mathlib.Core.Path.{_≡_, refl}
 use mathlib.Core.List.{[], _∷_}
 use Prim.Native.Nat.{_≤_, _-_}

@@ -1,3 +1,4 @@
+-- `write_plan` meets its contract: the C records, the S records behind them, and the rest of the buffer as before (Writing).
 use native.Mathlib.Omega.{arith}
 use Rattle.model.proofs.Lists.{length-singles}
 use Rattle.layout.proofs.Runs.{wrote-length}

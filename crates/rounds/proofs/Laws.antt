@@ -1,0 +1,28 @@
+-- Laws of the arrays that are filled for a candidate. Assumes nothing.
+use mathlib.Core.Bool.{Bool, false, _&&_}
+use mathlib.Core.List.{List}
+use mathlib.Core.Logic.{inl, inr}
+use mathlib.Core.Path.{_≡_, sym}
+use Prim.Native.Nat.{ℕ, _+_, _*_, _/_, _%_, _<_, _≤_}
+use native.Mathlib.Omega.{arith}
+use lib.Arith.{digits-div, digits-mod}
+use lib.ListN.{length, getD, List·getD-eq-default}
+use Rattle.model.specs.Sets.{on}
+use Rattle.model.proofs.Fractions.{compare≤}
+use Rattle.sheet.proofs.Laws.{and-false}
+
+-- a room by dose and interval, and by its place
+pub room-place : (active set : List Bool) (lens : List ℕ) (w k j : ℕ) → j < 47
+    → on (getD set k false) (on (getD active (k * 47 + j) false) (getD lens j 0 * w)) ≡ on (getD set ((k * 47 + j) / 47) false) (on (getD active (k * 47 + j) false) (getD lens ((k * 47 + j) % 47) 0 * w))
+room-place active set lens w k j h = rw (digits-div k h, digits-mod k h)
+
+-- marks of both arrays, also past their ends
+pub marks-both : (n : ℕ) (dead set part : List Bool) → length set ≡ n → length part ≡ n
+    → ((k : ℕ) → k < n → getD part k false ≡ (getD dead k false && getD set k false)) → (k : ℕ) → getD part k false ≡ (getD dead k false && getD set k false)
+marks-both n dead set part e g all k = elim (compare≤ n k) [
+  | inl h ↦ rw (past part (omega arith), past set (omega arith)) (sym (and-false (getD dead k false)))
+  | inr h ↦ all k h
+]
+  where
+    past : (l : List Bool) → length l ≤ k → getD l k false ≡ false
+    past l h = List·getD-eq-default l false {n = k} h

@@ -1,0 +1,80 @@
+-- `needs_of` meets its contract: every dose passed has its need.
+use Prim.Native.Nat.{ℕ, _<_, _≤_, _-_, _*_}
+use mathlib.Core.Path.{_≡_}
+use mathlib.Core.Bool.{false}
+use lib.ListN.{length, getD, length-set}
+use native.Mathlib.Omega.{arith}
+use borrow.Author.Needs.{needs}
+use Rattle.model.specs.Sets.{on}
+use Rattle.steps.proofs.Loops.{stored}
+use native.Mathlib.Nat.{mul-le-mul}
+use Rattle.rounds.proofs.needs_of.Statement.{statement}
+use Rattle.rounds.proofs.needs_of.Tie as tie
+
+abbrev Inv-loop : tie.InvT-loop
+Inv-loop grams p set ns₀ k₀ ns k = (k ≤ 24) × (length ns ≡ 24) × ((m : ℕ) → m < k → getD ns m 0 ≡ on (getD set m false) (getD grams m 0 * p))
+
+abbrev μ-loop : tie.MeasureT-loop
+μ-loop grams p set ns₀ k₀ ns k = 24 - k
+
+loop-holds : tie.Need-loop-holds Inv-loop μ-loop
+loop-holds c = (omega arith, search needs, λ k h. absurd (omega arith))
+
+array-read-on : tie.Need-array-read-on Inv-loop μ-loop
+array-read-on c = search needs
+
+mul-on : tie.Need-mul-on Inv-loop μ-loop
+mul-on c = search needs
+
+element-copy-out-on : tie.Need-element-copy-out-on Inv-loop μ-loop
+element-copy-out-on c = search needs
+
+mul-on-2 : tie.Need-mul-on-2 Inv-loop μ-loop
+mul-on-2 c =
+    let A = c .before .before .before .args in
+    let L = c .before .before .loop in
+    let t : getD (A .grams .now) (L .k) 0 * A .p ≤ 1000000 * 1000000000 = mul-le-mul (c .before .before .before .pre .0 (L .k)) (c .before .before .before .pre .1) in
+    omega arith
+
+on-requires : tie.Need-on-requires Inv-loop μ-loop
+on-requires c κs = search needs
+
+mul-needs : tie.Need-mul-needs Inv-loop μ-loop
+mul-needs c = search needs
+
+array-write-needs : tie.Need-array-write-needs Inv-loop μ-loop
+array-write-needs c = search needs
+
+add-k : tie.Need-add-k Inv-loop μ-loop
+add-k c = search needs
+
+loop-less : tie.Need-loop-less Inv-loop μ-loop
+loop-less c = search needs
+
+loop-again : tie.Need-loop-again Inv-loop μ-loop
+loop-again c =
+    let A = c .before .before .before .before .args in
+    let L = c .before .before .before .loop in
+    (omega arith, simp length-set (L .inv .1), stored 0 (λ k. on (getD (A .t2) k false) (getD (A .grams .now) k 0 * A .p)) (L .needs) (L .k) _ (omega arith) (L .inv .2) (c .on .ensures .0))
+
+returns : tie.Need-returns Inv-loop μ-loop
+returns c = λ k h. c .before .loop .inv .2 k (omega arith)
+
+pub needs-of-spec : {M : Type 1} → statement M
+needs-of-spec =
+    tie.close
+    (tie.spec
+    Inv-loop
+    μ-loop
+    loop-holds
+    array-read-on
+    mul-on
+    element-copy-out-on
+    mul-on-2
+    on-requires
+    mul-needs
+    array-write-needs
+    add-k
+    loop-less
+    loop-again
+    returns)

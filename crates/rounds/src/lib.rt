@@ -1,0 +1,187 @@
+// The rounds that find the next class, and the shares that a candidate asks for (document 01, "From doses to classes", "From classes to slots").
+use measure::fan_time;
+use measure::grams_of;
+use measure::open_fans;
+use steps::both;
+use steps::on;
+ghost use mathlib.Core.Path.{_≡_};
+ghost use mathlib.Core.Bool.{false, _&&_};
+ghost use Prim.Native.Nat.{ℕ, _+_, _*_, _<_, _≤_};
+ghost use lib.ListN.{length, getD};
+ghost use Rattle.model.specs.Sets.{Nonempty};
+ghost use Rattle.sheet.specs.Sheet.{setOf, rowOf, Below, settingFrom, Sheet};
+ghost use Rattle.measure.specs.Measure.{Measured};
+ghost use Rattle.rounds.specs.Rounds.{RoomsTo, Rooms, Holds, Needs, Tried, Chosen};
+
+// "Its share in an interval of length L is at most L × W units, only where it is active": the rooms of dose k.
+fn lay_row(
+    rooms: &mut [u64; 1128],
+    active: &[bool; 1128],
+    lens: &[u64; 47],
+    set: [bool; 24],
+    k: usize,
+    w: u64,
+)
+    requires { ⌜ (length (now rooms) ≡ 1128) × Below 604800 (now lens) × (w ≤ 24000000) × (k < 24) × RoomsTo (now active) (now lens) set w (k * 47) (now rooms) ⌝ }
+    ensures { λ _. ⌜ (length (now (rooms .exit)) ≡ 1128) × RoomsTo (now (active .entry)) (now (lens .entry)) set w (k * 47 + 47) (now (rooms .exit)) ⌝ }
+{
+    let mut j = 0;
+    while j < 47 {
+        let at = k * 47 + j;
+        rooms[at] = on(set[k], on(active[at], lens[j] * w));
+        j += 1;
+    }
+}
+
+// The rooms of all doses, in a lent array: none for doses outside the set.
+fn lay_rooms(
+    rooms: &mut [u64; 1128],
+    active: &[bool; 1128],
+    lens: &[u64; 47],
+    set: [bool; 24],
+    w: u64,
+)
+    requires { ⌜ (length (now rooms) ≡ 1128) × Below 604800 (now lens) × (w ≤ 24000000) ⌝ }
+    ensures { λ _. ⌜ (length (now (rooms .exit)) ≡ 1128) × Rooms (now (active .entry)) (now (lens .entry)) set w (now (rooms .exit)) ⌝ }
+{
+    let mut k = 0;
+    while k < 24 {
+        lay_row(rooms, active, lens, set, k, w);
+        k += 1;
+    }
+}
+
+// "its reserved fans × L × W".
+fn holds_of(lens: &[u64; 47], reserved: [u64; 47], w: u64) -> [u64; 47]
+    requires { ⌜ Below 604800 (now lens) × Below 24 reserved × (w ≤ 24000000) ⌝ }
+    ensures { λ r. ⌜ Holds (now (lens .entry)) reserved w r ⌝ }
+{
+    let mut holds = [0u64; 47];
+    let mut j = 0;
+    while j < 47 {
+        holds[j] = reserved[j] * (lens[j] * w);
+        j += 1;
+    }
+    holds
+}
+
+// "A dose of w grams in a class with W and P needs w × P units."
+fn needs_of(grams: &[u64; 24], set: [bool; 24], p: u64) -> [u64; 24]
+    requires { ⌜ Below 1000000 (now grams) × (p ≤ 1000000000) ⌝ }
+    ensures { λ r. ⌜ Needs (now (grams .entry)) set p r ⌝ }
+{
+    let mut needs = [0u64; 24];
+    let mut k = 0;
+    while k < 24 {
+        needs[k] = on(set[k], grams[k] * p);
+        k += 1;
+    }
+    needs
+}
+
+// The doses of the set that are dead: no chain leads out of them.
+fn dead_part(dead: [bool; 72], set: [bool; 24]) -> [bool; 24]
+    ensures { λ r. ⌜ ((k : ℕ) → getD r k false ≡ (getD dead k false && getD set k false)) ⌝ }
+{
+    let mut part = [false; 24];
+    let mut k = 0;
+    while k < 24 {
+        part[k] = both(dead[k], set[k]);
+        k += 1;
+    }
+    part
+}
+
+// A candidate for the next class: whether its needs are met, and if not, the next candidate.
+struct Round {
+    met: bool,
+    part: [bool; 24],
+    grams: u64,
+    time: u64,
+    reserved: [u64; 47],
+}
+
+// One round: the candidate's shares in x.
+fn try_candidate(
+    x: &mut [u64],
+    active: &[bool; 1128],
+    lens: &[u64; 47],
+    grams: &[u64; 24],
+    doses: usize,
+    intervals: usize,
+    free: [u64; 47],
+    set: [bool; 24],
+    sequence: [usize; 24],
+) -> Round
+    requires { ⌜ (length (now x) ≡ 1128) × Sheet doses intervals (now active) (now lens) (now grams) ⌝ }
+    ensures { λ r. ⌜ Measured (settingFrom doses intervals (now (active .entry)) (now (lens .entry)) (now (grams .entry))) (rowOf free) (setOf set) (r .grams) (r .time) (r .reserved) × Below 24 (r .reserved) × Tried (settingFrom doses intervals (now (active .entry)) (now (lens .entry)) (now (grams .entry))) (rowOf free) (setOf set) (now (x .exit)) (r .met) (setOf (r .part)) ⌝ }
+{
+    let w = grams_of(grams, doses, set);
+    let reserved = open_fans(active, doses, set, free);
+    let p = fan_time(lens, intervals, reserved);
+    let mut rooms = [0u64; 1128];
+    lay_rooms(&mut rooms, active, lens, set, w);
+    let holds = holds_of(lens, reserved, w);
+    let needs = needs_of(grams, set, p);
+    let dead = share::find_shares(x, &rooms, &holds, &needs, sequence);
+    let met = share::all_met(x, &needs);
+    let part = dead_part(dead, set);
+    Round {
+        met,
+        part,
+        grams: w,
+        time: p,
+        reserved,
+    }
+}
+
+// The next class: its doses, W and P, and the fans that it reserves.
+pub struct Class {
+    pub members: [bool; 24],
+    pub grams: u64,
+    pub time: u64,
+    pub reserved: [u64; 47],
+}
+
+// "The next class is the set with the greatest W/P among nonempty sets of remaining doses": rounds, from all of them to a part whose needs are
+// met. Its shares are in x.
+pub fn next_class(
+    x: &mut [u64],
+    active: &[bool; 1128],
+    lens: &[u64; 47],
+    grams: &[u64; 24],
+    doses: usize,
+    intervals: usize,
+    free: [u64; 47],
+    remaining: [bool; 24],
+    sequence: [usize; 24],
+) -> Class
+    requires { ⌜ (length (now x) ≡ 1128) × Sheet doses intervals (now active) (now lens) (now grams) × Nonempty doses (setOf remaining) ⌝ }
+    ensures { λ r. ⌜ Measured (settingFrom doses intervals (now (active .entry)) (now (lens .entry)) (now (grams .entry))) (rowOf free) (setOf (r .members)) (r .grams) (r .time) (r .reserved) × Below 24 (r .reserved) × Chosen (settingFrom doses intervals (now (active .entry)) (now (lens .entry)) (now (grams .entry))) (rowOf free) (setOf remaining) (setOf (r .members)) (now (x .exit)) ⌝ }
+{
+    let mut set = remaining;
+    loop {
+        let round = try_candidate(
+            x,
+            active,
+            lens,
+            grams,
+            doses,
+            intervals,
+            free,
+            set,
+            sequence,
+        );
+        let part = round.part;
+        if round.met {
+            let reserved = round.reserved;
+            return Class {
+                members: set,
+                grams: round.grams,
+                time: round.time,
+                reserved,
+            };
+        }
+        set = part;
+    }
+}

@@ -1,0 +1,45 @@
+-- The arrays in which classes are found: what stands in them, and the setting that they stand for.
+use mathlib.Core.Path.{_≡_}
+use mathlib.Core.Bool.{Bool, false}
+use mathlib.Core.List.{List}
+use Prim.Native.Nat.{ℕ, _+_, _*_, _<_, _≤_}
+use lib.ListN.{getD}
+use Rattle.model.specs.Sets.{Doses}
+use Rattle.model.specs.Classes.{Setting, Row}
+
+-- the set that an array of marks holds
+abbrev pub setOf : List Bool → Doses
+setOf marks k = getD marks k false
+
+-- dose k is active in interval j
+abbrev pub activeOf : List Bool → ℕ → ℕ → Bool
+activeOf active k j = getD active (k * 47 + j) false
+
+-- the fans of an array, interval by interval
+abbrev pub rowOf : List ℕ → Row
+rowOf fans j = getD fans j 0
+
+-- no number of the array is above b
+abbrev pub Below : ℕ → List ℕ → Type 0
+Below b l = (i : ℕ) → getD l i 0 ≤ b
+
+-- the setting of n doses and J intervals that the arrays stand for
+abbrev pub settingFrom : ℕ → ℕ → List Bool → List ℕ → List ℕ → Setting
+settingFrom n J active lens grams = record {
+  doses = n;
+  intervals = J;
+  active = activeOf active;
+  len = λ j. getD lens j 0;
+  grams = λ k. getD grams k 0;
+}
+
+-- the numbers fit, every dose weighs, and nothing stands past the doses and the intervals
+pub record Sheet (n J : ℕ) (active : List Bool) (lens grams : List ℕ) : Type 0 where
+  pub few-doses : n ≤ 24
+  pub few-intervals : J ≤ 47
+  pub short : Below 604800 lens
+  pub light : Below 1000000 grams
+  pub heavy : (k : ℕ) → k < n → 1 ≤ getD grams k 0
+  pub no-grams : (k : ℕ) → n ≤ k → getD grams k 0 ≡ 0
+  pub no-dose : (k j : ℕ) → n ≤ k → k < 24 → j < 47 → activeOf active k j ≡ false
+  pub no-interval : (k j : ℕ) → k < 24 → J ≤ j → j < 47 → activeOf active k j ≡ false

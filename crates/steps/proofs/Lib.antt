@@ -1,0 +1,4 @@
+pub mod Tests
+pub mod Loops
+pub mod Bits
+pub mod Products
