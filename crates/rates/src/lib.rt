@@ -46,27 +46,52 @@ fn grams_in(numbers: &[u32; 24], grams: &[u32; 24], doses: usize, i: usize) -> u
     sum
 }
 
-// "(active doses of A)", in the interval between two instants.
-fn active_in(
+// The active doses so far, interval by interval, with one dose more.
+fn with_dose(
+    counts: [u64; 47],
+    release: u32,
+    deadline: u32,
+    instants: &[u32; 48],
+    intervals: usize,
+) -> [u64; 47]
+    requires { ⌜ (intervals ≤ 47) × ((j : ℕ) → j < intervals → getD counts j 0 ≤ 23) ⌝ }
+    ensures { λ r. ⌜ ((j : ℕ) → j < intervals → getD r j 0 ≡ getD counts j 0 + sets.on (leb release (getD (now (instants .entry)) j 0) && leb (getD (now (instants .entry)) (j + 1) 0) deadline) 1) ⌝ }
+{
+    let mut row = counts;
+    let mut j = 0;
+    while j < intervals {
+        let open = both(release <= instants[j], instants[j + 1] <= deadline);
+        row[j] = counts[j] + on(open, 1);
+        j += 1;
+    }
+    row
+}
+
+// "(active doses of A)" of class i, for each interval.
+fn active_row(
     numbers: &[u32; 24],
     release: &[u32; 24],
     deadline: &[u32; 24],
+    instants: &[u32; 48],
     doses: usize,
+    intervals: usize,
     i: usize,
-    from: u32,
-    to: u32,
-) -> u64
-    requires { ⌜ (doses ≤ 24) × (i < 24) ⌝ }
-    ensures { λ r. ⌜ (r ≡ weight doses (λ k. sets.on (leb (getD (now (release .entry)) k 0) from && leb to (getD (now (deadline .entry)) k 0)) 1) (setsOf (now (numbers .entry)) i)) × (r ≤ 24) ⌝ }
+) -> [u64; 47]
+    requires { ⌜ (doses ≤ 24) × (intervals ≤ 47) × (i < 24) ⌝ }
+    ensures { λ r. ⌜ ((j : ℕ) → j < intervals → (getD r j 0 ≡ weight doses (λ k. sets.on (leb (getD (now (release .entry)) k 0) (getD (now (instants .entry)) j 0) && leb (getD (now (instants .entry)) (j + 1) 0) (getD (now (deadline .entry)) k 0)) 1) (setsOf (now (numbers .entry)) i)) × (getD r j 0 ≤ 24)) ⌝ }
 {
-    let mut sum: u64 = 0;
+    let mut counts = [0u64; 47];
     let mut k = 0;
     while k < doses {
-        let open = both(release[k] <= from, to <= deadline[k]);
-        sum += on(index(numbers[k]) == i + 1, on(open, 1));
+        if index(numbers[k]) != i + 1 {
+            k += 1;
+            continue;
+        }
+        let next = with_dose(counts, release[k], deadline[k], instants, intervals);
+        counts = next;
         k += 1;
     }
-    sum
+    counts
 }
 
 // "the smaller of (active doses of A) and (fans − fans reserved by earlier classes)", for each interval.
@@ -83,19 +108,11 @@ fn open_row(
     requires { ⌜ (doses ≤ 24) × (intervals ≤ 47) × (i < 24) ⌝ }
     ensures { λ r. ⌜ Opens (now (numbers .entry)) (now (release .entry)) (now (deadline .entry)) (now (instants .entry)) doses intervals i free r ⌝ }
 {
+    let counts = active_row(numbers, release, deadline, instants, doses, intervals, i);
     let mut row = [0u64; 47];
     let mut j = 0;
     while j < intervals {
-        let n = active_in(
-            numbers,
-            release,
-            deadline,
-            doses,
-            i,
-            instants[j],
-            instants[j + 1],
-        );
-        row[j] = smaller(n, free[j]);
+        row[j] = smaller(counts[j], free[j]);
         j += 1;
     }
     row

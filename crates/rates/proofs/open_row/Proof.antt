@@ -13,37 +13,28 @@ use Rattle.rates.proofs.open_row.Statement.{statement}
 use Rattle.rates.proofs.open_row.Tie as tie
 
 abbrev Inv-loop : tie.InvT-loop
-Inv-loop numbers release deadline instants doses intervals i free row₀ j₀ row j = (length row ≡ 47) × (j ≤ intervals) × Opens numbers release deadline instants doses j i free row
+Inv-loop numbers release deadline instants doses intervals i free counts row₀ j₀ row j = (length row ≡ 47) × (j ≤ intervals) × Opens numbers release deadline instants doses j i free row
 
 abbrev μ-loop : tie.MeasureT-loop
-μ-loop numbers release deadline instants doses intervals i free row₀ j₀ row j = intervals - j
+μ-loop numbers release deadline instants doses intervals i free counts row₀ j₀ row j = intervals - j
+
+active-row-requires : tie.Need-active-row-requires Inv-loop μ-loop
+active-row-requires c κs = search needs
 
 loop-holds : tie.Need-loop-holds Inv-loop μ-loop
 loop-holds c = (refl, omega arith, record { smaller = λ k l. absurd (omega arith); small = λ k l. absurd (omega arith) })
-
-mul-active-in : tie.Need-mul-active-in Inv-loop μ-loop
-mul-active-in c = search needs
-
-element-copy-out-active-in : tie.Need-element-copy-out-active-in Inv-loop μ-loop
-element-copy-out-active-in c = search needs
-
-add-active-in : tie.Need-add-active-in Inv-loop μ-loop
-add-active-in c = search needs
-
-mul-active-in-2 : tie.Need-mul-active-in-2 Inv-loop μ-loop
-mul-active-in-2 c = search needs
-
-element-copy-out-active-in-2 : tie.Need-element-copy-out-active-in-2 Inv-loop μ-loop
-element-copy-out-active-in-2 c = search needs
-
-active-in-requires : tie.Need-active-in-requires Inv-loop μ-loop
-active-in-requires c κs = search needs
 
 mul-smaller : tie.Need-mul-smaller Inv-loop μ-loop
 mul-smaller c = search needs
 
 array-read-smaller : tie.Need-array-read-smaller Inv-loop μ-loop
 array-read-smaller c = search needs
+
+mul-smaller-2 : tie.Need-mul-smaller-2 Inv-loop μ-loop
+mul-smaller-2 c = search needs
+
+array-read-smaller-2 : tie.Need-array-read-smaller-2 Inv-loop μ-loop
+array-read-smaller-2 c = search needs
 
 smaller-requires : tie.Need-smaller-requires Inv-loop μ-loop
 smaller-requires c κs = search needs
@@ -62,10 +53,10 @@ loop-less c = search needs
 
 loop-again : tie.Need-loop-again Inv-loop μ-loop
 loop-again c =
-    let A = c .before .before .before .before .before .before .args in
-    let L = c .before .before .before .before .before .loop in
+    let A = c .before .before .before .before .args in
+    let L = c .before .before .loop in
     let e = c .smaller .ensures in
-    let a = c .before .active-in .ensures in (
+    let a = c .before .before .before .active-row .ensures (L .j) (omega arith) in (
       search needs,
       omega arith,
       record {
@@ -77,7 +68,10 @@ loop-again c =
     )
 
 returns : tie.Need-returns Inv-loop μ-loop
-returns c = at-end (λ (j : ℕ). Opens (c .before .before .args .numbers .now) (c .before .before .args .release .now) (c .before .before .args .deadline .now) (c .before .before .args .instants .now) (c .before .before .args .doses) j (c .before .before .args .i) (c .before .before .args .t8) (c .before .loop .row)) (omega arith) (c .before .loop .inv .2)
+returns c =
+    let A = c .before .before .before .args in
+    let L = c .before .loop in
+    at-end (λ (j : ℕ). Opens (A .numbers .now) (A .release .now) (A .deadline .now) (A .instants .now) (A .doses) j (A .i) (A .t8) (L .row)) (omega arith) (L .inv .2)
 
 pub open-row-spec : {M : Type 1} → statement M
 open-row-spec =
@@ -85,15 +79,12 @@ open-row-spec =
     (tie.spec
     Inv-loop
     μ-loop
+    active-row-requires
     loop-holds
-    mul-active-in
-    element-copy-out-active-in
-    add-active-in
-    mul-active-in-2
-    element-copy-out-active-in-2
-    active-in-requires
     mul-smaller
     array-read-smaller
+    mul-smaller-2
+    array-read-smaller-2
     smaller-requires
     mul-row
     array-write-row
