@@ -14,7 +14,7 @@ use Rattle.model.specs.Sets.{sum, on, Doses, Nonempty}
 use Rattle.model.specs.Classes.{Setting, Row, W, P, NextClass, Classes, classP, reserved, remaining, free, openFans}
 use Rattle.model.specs.Shares.{Valid}
 use Rattle.model.proofs.Sums.{last, sum-congr}
-use Rattle.model.proofs.Sets.{Alike, _∩_, and-left, and-right, and-both, same-test, on-yes, size, size-all, le-weight, weight-pos, weight-part, weight-alike}
+use Rattle.model.proofs.Sets.{Alike, _∩_, and-left, and-right, and-both, same-test, on-no, on-yes, size, size-all, le-weight, weight-pos, weight-part, weight-alike}
 use Rattle.model.proofs.Same.{agree-refl, fans-same, time-same, valid-same, next-same}
 use Rattle.model.proofs.Sequence.{Found, found-none, found-more, found-all, remaining-alike, free-alike}
 use Rattle.chains.specs.Chains.{cell}
@@ -50,10 +50,6 @@ blank = record { rows = rows-same 24; cells = λ i. all-same 1128 i 0 }
 all-remain : (C : ℕ → Doses) (k : ℕ) → remaining C 0 k ≡ true
 unfolding remaining
 all-remain C k = refl
-
-on-no : (b : Bool) (v : ℕ) → (T b → ⊥) → on b v ≡ 0
-on-no true v h = absurd (h tt)
-on-no false v h = refl
 
 -- the first classes leave the fans less what they reserve
 free-sum : (S : Setting) (F : Row) (C : ℕ → Doses) (i j : ℕ) → free S F C i j ≡ F j - sum i (λ l. reserved S F C l j)

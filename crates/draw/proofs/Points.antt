@@ -1,15 +1,15 @@
 -- A dose's state and amount by what the code holds, and what a plan that stands gives the code. Assumes nothing.
-use mathlib.Core.Path.{_≡_, ap, _∙_}
+use mathlib.Core.Path.{_≡_}
 use mathlib.Core.List.{List}
 use Prim.Native.Nat.{ℕ, _+_, _/_, _<_, _≤_}
-use native.Mathlib.Nat.{le-of-mul-le-mul-right, mul-le-mul-right, zero-add}
+use native.Mathlib.Nat.{le-of-mul-le-mul-right, mul-le-mul-right}
 use native.Mathlib.Omega.{arith}
 use borrow.Author.Tests.{le-leb, lt-leb, le-ltb, lt-ltb}
 use lib.ListN.{getD}
 use mir.Syntax.{w32}
 use mir.Val.{Fits}
 use Rattle.model.specs.Records.{read}
-use Rattle.model.specs.Orders.{doseAt, noDose, readOrder}
+use Rattle.model.specs.Orders.{doseAt, readOrder}
 use Rattle.model.specs.Orders as orders
 use Rattle.model.specs.Classes.{classP}
 use Rattle.model.specs.Intervals.{settingOf, fansPresent}
@@ -22,17 +22,12 @@ use Rattle.model.proofs.Orders.{Fit, read-fits}
 use Rattle.model.proofs.DrawnLine.{InClass, Line, class-of}
 use Rattle.model.proofs.Planner.{stand-read, time-most}
 use Rattle.model.proofs.Standing.{plan-line, plan-rate}
-use Rattle.order.specs.Held.{asOrder, doseHeld, dosesFrom}
+use Rattle.order.proofs.Fields.{dose-is}
+use Rattle.order.specs.Held.{asOrder}
 use Rattle.order.specs.declared.Order.{Order}
-use Rattle.order.proofs.Columns.{run-at}
 use Rattle.draw.specs.Drawing.{Drawable}
 
 -- ---- a dose of the order
-
--- dose d as the arrays hold it
-pub dose-held : (o : Order) (d : ℕ) → d < o .count → doseAt (asOrder o) d ≡ doseHeld o d
-unfolding asOrder dosesFrom
-dose-held o d h = run-at (doseHeld o) 0 (o .count) d noDose h ∙ ap (doseHeld o) (zero-add d)
 
 -- ---- its state
 
@@ -45,15 +40,15 @@ module _ (o : Order) (slots : List Slot) (d t : ℕ) (dn : d < o .count) where
 
   pub state-finished : deadline ≤ t → finished ≡ stateAt (asOrder o) slots d t
   unfolding stateAt
-  state-finished h = rw (dose-held o d dn, le-leb deadline t h)
+  state-finished h = rw (← dose-is o d dn, le-leb deadline t h)
 
   pub state-shut : t < deadline → t < release → shut ≡ stateAt (asOrder o) slots d t
   unfolding stateAt
-  state-shut h g = rw (dose-held o d dn, lt-leb deadline t h, lt-ltb t release g)
+  state-shut h g = rw (← dose-is o d dn, lt-leb deadline t h, lt-ltb t release g)
 
   pub state-open : t < deadline → release ≤ t → fedAt slots d t ≡ stateAt (asOrder o) slots d t
   unfolding stateAt
-  state-open h g = rw (dose-held o d dn, lt-leb deadline t h, le-ltb t release g)
+  state-open h g = rw (← dose-is o d dn, lt-leb deadline t h, le-ltb t release g)
 
 -- ---- its amount
 

@@ -1,5 +1,4 @@
 -- Refusal 9 is exact: a plan under the top rate exists just where the first class is not above it.
-use mathlib.Core.Bool.{Bool, false, true}
 use mathlib.Core.Path.{_∙_, _≡_, ap, refl}
 use Prim.Native.Nat.{_*_, _<_, _≤_, suc, zero, ℕ}
 use native.Mathlib.Nat.{mul-pos}
@@ -8,7 +7,7 @@ use lib.Dec.{T}
 use Rattle.model.specs.Sets.{Doses, on, weight}
 use Rattle.model.specs.Classes.{Classes, P, Setting, W, classP}
 use Rattle.model.proofs.Sums.{one-term}
-use Rattle.model.proofs.Sets.{on-yes}
+use Rattle.model.proofs.Sets.{on-no, on-yes}
 use Rattle.model.proofs.Sequence.{all-in, one-class, stays-open, upto-find}
 use Rattle.model.proofs.Moments.{House, Pieces, Runs, crew}
 use Rattle.model.proofs.Certificate.{Totals}
@@ -25,10 +24,6 @@ pub record FreePlan (S : Setting) (G : House S) (topGrams topSeconds : ℕ) : Ty
   pub whole : 0 < denominator
   pub delivers : Delivers S pieces rate denominator
   pub slow : (i : ℕ) → i < pieces .m → rate i * topSeconds ≤ topGrams * denominator
-
-on-no : (a : Bool) (x : ℕ) → (T a → ⊥) → on a x ≡ 0
-on-no true x h = absurd (h tt)
-on-no false x h = refl
 
 -- a product of numbers above 0 is above 0
 pub product-pos : (p : ℕ) (f : ℕ → ℕ) → ((i : ℕ) → i < p → 0 < f i) → 0 < product p f

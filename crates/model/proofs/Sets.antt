@@ -120,6 +120,16 @@ on-pos false x h = omega arith
 pub on-yes : (a : Bool) (x : ℕ) → T a → on a x ≡ x
 on-yes true x h = refl
 
+-- it does not: none
+pub on-no : (a : Bool) (x : ℕ) → (T a → ⊥) → on a x ≡ 0
+on-no true x h = absurd (h tt)
+on-no false x h = refl
+
+-- the number at most
+pub on-below : (a : Bool) (x : ℕ) → on a x ≤ x
+on-below true x = omega arith
+on-below false x = omega arith
+
 -- ---- the weight of a set of the doses below n
 
 module _ (n : ℕ) where

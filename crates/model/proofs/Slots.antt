@@ -1,5 +1,5 @@
 -- Valid shares give slots that stand: over the classes of an interval, over the intervals, and for an order and its classes.
-use mathlib.Core.Bool.{Bool, _&&_, false, true}
+use mathlib.Core.Bool.{_&&_}
 use mathlib.Core.Logic.{inl, inr}
 use mathlib.Core.Path.{_∙_, _≡_, ap}
 use mathlib.Core.List.{List}
@@ -9,7 +9,7 @@ use native.Mathlib.Numerals.{add-one}
 use native.Mathlib.Omega.{arith}
 use lib.Dec.{T, leb, leb→le}
 use lib.ListN.{length}
-use Rattle.model.specs.Sets.{Doses, on, sum}
+use Rattle.model.specs.Sets.{Doses, sum}
 use Rattle.model.specs.Lists.{All, Pairs, total}
 use Rattle.model.specs.Orders.{Order, doseAt}
 use Rattle.model.specs.Classes.{Classes, Setting, W, classP, openFans, reserved}
@@ -19,7 +19,7 @@ use Rattle.model.specs.Layout.{Table, intervalSlots, lane, laneSlots, sl
 use Rattle.model.specs.Stands.{Between, EndsBy, InInterval, InOrder, Named, NoOverlap, SlotsStand, by-fan, by-interval, by-start, ends, starts, unitsOf}
 use Rattle.model.specs.Answers.{ValidShares}
 use Rattle.model.proofs.Sums.{last, one-term, sum-add, sum-congr, sum-le, sum-swap}
-use Rattle.model.proofs.Sets.{and-left, and-right}
+use Rattle.model.proofs.Sets.{and-left, and-right, on-pos, on-below}
 use Rattle.model.proofs.FanTime.{weighs}
 use Rattle.model.proofs.Sequence.{all-in, nested, one-class, prefix-interval, upto-find}
 use Rattle.model.proofs.Orders.{Fit}
@@ -165,14 +165,6 @@ instants-up o i (suc j) l q = elim (last l) [
   | inr r ↦ omega (arith, instants-up o i j r (omega arith), rw add-one at (instants-rise o j (omega arith)))
 ]
 
-on-most : (b : Bool) (y : ℕ) → on b y ≤ y
-on-most true y = omega arith
-on-most false y = omega arith
-
-on-some : (b : Bool) (y : ℕ) → 0 < on b y → T b
-on-some true y h = tt
-on-some false y h = absurd (omega arith)
-
 module _ (o : Order) (fit : Fit o) (p : ℕ) (C : ℕ → Doses) (c : Classes (settingOf o) (fansPresent o) p C) (x : ℕ → ℕ → ℕ → ℕ)
     (v : ValidShares o p C x) where
   abbrev S : Setting
@@ -183,7 +175,7 @@ module _ (o : Order) (fit : Fit o) (p : ℕ) (C : ℕ → Doses) (c : Classes (s
 
   -- a share is of a dose of the class, where it is active
   open-share : (i k j : ℕ) → i < p → k < S .doses → j < S .intervals → 0 < x i k j → T (C i k && activeAt o k j)
-  open-share i k j l q r h = on-some (C i k && activeAt o k j) (S .len j * W S (C i)) (omega (arith, v i l .roomy k j q r))
+  open-share i k j l q r h = on-pos (C i k && activeAt o k j) (S .len j * W S (C i)) (omega (arith, v i l .roomy k j q r))
 
   -- and every dose is in a class
   every-class : (k : ℕ) → k < S .doses → (i : ℕ) × (i < p) × T (C i k)
@@ -195,7 +187,7 @@ module _ (o : Order) (fit : Fit o) (p : ℕ) (C : ℕ → Doses) (c : Classes (s
   runs j r = record {
     heavy = λ i l. weighs S (fit .some-grams) (C i) (c .next i l .some);
     wide = omega (arith, instants-rise o j r);
-    most = λ i k l q. omega (arith, v i l .roomy k j q r, on-most (C i k && activeAt o k j) (S .len j * W S (C i)));
+    most = λ i k l q. omega (arith, v i l .roomy k j q r, on-below (C i k && activeAt o k j) (S .len j * W S (C i)));
     full = λ i l. v i l .full j r;
     room = omega (arith, prefix-interval S (fansPresent o) C p (nested S (fansPresent o) p C c p (omega arith)) j);
     mine = λ i k l q h. and-left (C i k) (activeAt o k j) (open-share i k j l q r h);

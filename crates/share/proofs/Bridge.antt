@@ -12,7 +12,7 @@ use Rattle.model.specs.Sets.{on, weight, Doses, Sub, Nonempty}
 use Rattle.model.specs.Classes.{Setting, Row, W, NextClass}
 use Rattle.model.specs.Shares as model
 use Rattle.model.proofs.Sums.{sum-congr, sum-past, sum-zero}
-use Rattle.model.proofs.Sets.{and-left, and-right, and-both, on-pos, on-yes, le-weight}
+use Rattle.model.proofs.Sets.{and-left, and-right, and-both, on-pos, on-below, on-yes, le-weight}
 use Rattle.model.proofs.FanTime.{Heavy}
 use Rattle.model.proofs.Fractions.{compare≤}
 use Rattle.model.proofs.Chains.{some-part, smaller}
@@ -26,10 +26,6 @@ true-T e = rw e tt
 
 T-true : (b : Bool) → T b → b ≡ true
 T-true true t = refl
-
-on-most : (a : Bool) (u : ℕ) → on a u ≤ u
-on-most true u = omega arith
-on-most false u = omega arith
 
 module _ (S : Setting) (row : Row) (A : Doses) (rooms holds needs : List ℕ) where
   open Setting S using (doses as n, intervals as J, active, len, grams)
@@ -79,7 +75,7 @@ module _ (S : Setting) (row : Row) (A : Doses) (rooms holds needs : List ℕ) wh
     within = record {
       roomy = λ k j l m. omega (arith, p .within .bounded .roomy k j (dose-in l) (interval-in m), asked .room k j l m);
       held = λ j m. omega (arith, totals-given j m, p .within .bounded .held j (interval-in m), asked .hold j m);
-      needed = λ k l. omega (arith, totals-got k l, p .within .needed k (dose-in l), asked .need k l, on-most (A k) (model.need S row A k));
+      needed = λ k l. omega (arith, totals-got k l, p .within .needed k (dose-in l), asked .need k l, on-below (A k) (model.need S row A k));
     }
 
     pub closed : model.Closed S row A share R Q

@@ -7,6 +7,7 @@ use native.Mathlib.Omega.{arith}
 use borrow.Author.Tests.{eqb-true, eqb-false}
 use lib.Dec.{eqb}
 use Rattle.model.specs.Sets.{on}
+use Rattle.model.proofs.Sets.{on-below}
 
 pub not-both : {b : Bool} → b ≡ true → b ≡ false → ⊥
 not-both {b} p q = let z : true ≡ false = sym p ∙ q in let y : _≡_ {A = ℕ} 0 1 = cc in omega arith
@@ -21,5 +22,4 @@ alike m n f g = known (eqb m n) (λ e. f (eqb-true m n e)) (λ e. g (eqb-false m
 
 -- a number or 0 is at most the number
 pub on-most : (b : Bool) (v x m : ℕ) → v ≡ on b x → x ≤ m → v ≤ m
-on-most true v x m e l = omega arith
-on-most false v x m e l = omega arith
+on-most b v x m e l = omega (arith, on-below b x)
