@@ -39,12 +39,6 @@ module _ (o : Order) where
   abbrev F : Row
   F = fansPresent o
 
-  -- every dose has the number of one of the classes
-  pub number-below : (t : Tally) → ClassesOf o t → (k : ℕ) → k < S .doses → getD (t .numbers) k 0 < t .class
-  number-below t c k q =
-      let r = upto-find (classesIn t) (t .class) k (all-in S F (t .class) (classesIn t) (c .classes) k q) in
-      omega (arith, eqb→eq (getD (t .numbers) k 0) (r .0) (r .2), r .1)
-
   module _ (t t′ : Tally) (c : ClassesOf o t) (c′ : ClassesOf o t′) where
     pub one-count : t .class ≡ t′ .class
     one-count = count-unique S F (t .class) (t′ .class) (classesIn t) (classesIn t′) (c .classes) (c′ .classes)

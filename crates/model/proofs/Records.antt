@@ -10,7 +10,7 @@ use borrow.Author.Tests.{eqb-true}
 use lib.Dec.{eqb}
 use lib.ListN.{List·getD-eq-default, drop, getD, length, length-append, length-replicate, length-take, replicate, take}
 use lib.Seq.{drop-cons, drop-drop, getD-append-add, getD-drop, getD-take, take-add}
-use Rattle.model.specs.Records.{Part, blank, blankAt, field, fieldsAt, numberAt, numberBytes, recordAt, recordBytes}
+use Rattle.model.specs.Records.{Part, blank, blankAt, field, fieldsAt, numberAt, numberBytes, recordBytes}
 use Rattle.model.proofs.Fractions.{compare≤}
 
 -- ---- bytes
@@ -39,10 +39,6 @@ Same b at c to n = (i : ℕ) → i < n → getD b (at + i) 0 ≡ getD c (to + i)
 -- behind others that are as many as n
 pub same-behind : (pre b : List ℕ) (n : ℕ) → length pre ≡ n → (m : ℕ) → Same (pre ++ b) n b 0 m
 same-behind pre b n e m i l = rw (← e, zero-add) (getD-append-add pre b i 0)
-
--- in record i by itself
-pub same-record : (b : List ℕ) (i m : ℕ) → m ≤ 32 → Same (recordAt b i) 0 b (32 * i) m
-same-record b i m h k l = rw zero-add (getD-take 32 (drop (32 * i) b) k 0 (omega arith) ∙ getD-drop (32 * i) b k 0)
 
 same-later : (b : List ℕ) (at : ℕ) (c : List ℕ) (to w n : ℕ) → Same b at c to (w + n) → Same b (at + w) c (to + w) n
 same-later b at c to w n h i l = rw (add-assoc at w i, add-assoc to w i) (h (w + i) (omega arith))
@@ -149,14 +145,6 @@ blank-same [] b at c to h = refl
 blank-same (field width ∷ parts) b at c to h = blank-same parts b (at + width) c (to + width) (same-later b at c to width (sizeOf parts) h)
 blank-same (blank width ∷ parts) b at c to h =
     rw (number-same b at c to width (λ i l. h i (omega arith)), blank-same parts b (at + width) c (to + width) (same-later b at c to width (sizeOf parts) h))
-
--- record i by itself says the fields that the bytes say there
-pub fields-record : (parts : List Part) (b : List ℕ) (i : ℕ) → sizeOf parts ≤ 32 → fieldsAt parts (recordAt b i) 0 ≡ fieldsAt parts b (32 * i)
-fields-record parts b i h = fields-same parts (recordAt b i) 0 b (32 * i) (same-record b i (sizeOf parts) h)
-
--- and has the same zeros
-pub blank-record : (parts : List Part) (b : List ℕ) (i : ℕ) → sizeOf parts ≤ 32 → blankAt parts (recordAt b i) 0 ≡ blankAt parts b (32 * i)
-blank-record parts b i h = blank-same parts (recordAt b i) 0 b (32 * i) (same-record b i (sizeOf parts) h)
 
 -- bytes say fields that fit
 pub fields-fit : (parts : List Part) (b : List ℕ) → Bytes b → (at : ℕ) → Fits parts (fieldsAt parts b at)

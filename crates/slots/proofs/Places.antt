@@ -85,11 +85,6 @@ ends-apart a b from to s u l x y = record {
   by = omega (arith, mul-le-mul-right (u .grams) (x .high), mul-le-mul-right (s .grams) (y .low), mul-le-mul-right (s .grams * u .grams) l);
 }
 
--- two slots of which each ends by the other's start
-pub ends-both : (s u : Slot) → 0 < s .grams → 0 < u .grams → starts s < ends s → starts u < ends u → EndsBy s u → EndsBy u s → ⊥
-ends-both s u ws wu ls lu a b =
-    omega (arith, a .by, b .by, mul-lt-mul-of-pos-left {k = u .grams} ls wu, mul-lt-mul-of-pos-left {k = s .grams} lu ws)
-
 -- ---- slots in turn
 
 module _ (instants : List ℕ) (intervals : ℕ) where
