@@ -8,9 +8,9 @@ use native.Mathlib.Omega.{arith}
 use lib.Dec.{T}
 use Rattle.model.specs.Sets.{Doses, Nonempty, Sub, on, sum, weight}
 use Rattle.model.specs.Classes.{P, Row, Setting, W, activeIn, openFans}
-use Rattle.model.specs.Shares.{Closed, Within, got, missing, short}
-use Rattle.model.proofs.Sums.{sum-congr, sum-le, sum-scale}
-use Rattle.model.proofs.Sets.{_∩_, _∪_, and-left, and-right, on-times, or-elim, weight-add, weight-all, weight-congr, weight-le, weight-modular, weight-mono, weight-pos, weight-same, weight-scale, weight-swap}
+use Rattle.model.specs.Shares.{Closed, Within, got, missing, sharesTotal, short}
+use Rattle.model.proofs.Sums.{sum-congr, sum-le, sum-pos, sum-scale}
+use Rattle.model.proofs.Sets.{_∩_, _∪_, and-left, and-right, on-pos, on-times, or-elim, weight-add, weight-all, weight-congr, weight-le, weight-modular, weight-mono, weight-pos, weight-same, weight-scale, weight-swap}
 use Rattle.model.proofs.FanTime.{Heavy, P-mono, P-sub, openFans-mono}
 use Rattle.model.proofs.Fractions.{compare≤, le-mul-min, part-gains}
 
@@ -69,6 +69,25 @@ module _ (S : Setting) (row : Row) (A : Doses) (x : ℕ → ℕ → ℕ) where
     pub densest : missing S row A x ≡ 0 → (B : Doses) → Sub n B A → W S B * P S row A ≤ W S A * P S row B
     densest d B h = omega (arith, bound B h)
 
+    -- only doses of A have shares
+    in-class : (k : ℕ) → k < n → 0 < got S row A x k → T (A k)
+    in-class k l p =
+        let r = sum-pos J (x k) p in
+        let j = r .0 in
+        and-left (A k) (active k j) (on-pos (A k && active k j) (unit j) (omega (arith, f .roomy k j l (r .1), r .2)))
+
+    -- what A needs is the shares' total and what is missing
+    pub given-out : sharesTotal S row A x + missing S row A x ≡ W S A * P S row A
+    given-out =
+        omega (
+          arith,
+          split A,
+          weight-swap n J x A,
+          weight-all n (got S row A x),
+          weight-mono n (got S row A x) A (λ k. true) (λ k l t. tt),
+          weight-le n (got S row A x) (got S row A x) (λ k. true) A (λ k l t. in-class k l) (λ k l t. omega arith),
+        )
+
     -- ---- no chain leads out of the doses R and the intervals Q
 
     module _ (R : Doses) (Q : ℕ → Bool) (c : Closed S row A x R Q) where
@@ -77,7 +96,7 @@ module _ (S : Setting) (row : Row) (A : Doses) (x : ℕ → ℕ → ℕ) where
       whole-share k j false s e g l m r t = omega arith
       whole-share k j true false e g l m r t = elim (compare≤ (unit j) (x k j)) [
         | inl h ↦ h
-        | inr h ↦ absurd (rw g at (c .out k j l m r (rw e tt) h))
+        | inr h ↦ absurd (rw g at (c .out k j r (record { dose = l; interval = m; live = rw e tt; less = h })))
       ]
 
       -- an interval gives R all that R could use there

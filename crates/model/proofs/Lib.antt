@@ -9,6 +9,7 @@ pub mod Rounds
 pub mod Sequence
 pub mod Raise
 pub mod Shares
+pub mod Greatest
 pub mod Cells
 pub mod Moments
 pub mod Amounts

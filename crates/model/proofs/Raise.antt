@@ -7,9 +7,9 @@ use native.Mathlib.Decide.{ℕ-discrete}
 use native.Mathlib.Omega.{arith}
 use lib.Dec.{eqb}
 use borrow.Author.Tests.{eq-eqb, ne-eqb}
-use Rattle.model.specs.Sets.{sum, Doses}
+use Rattle.model.specs.Sets.{Doses}
 use Rattle.model.specs.Classes.{Setting, Row}
-use Rattle.model.specs.Shares.{need, room, holds, got, given, Within}
+use Rattle.model.specs.Shares.{need, room, holds, got, given, Within, sharesTotal}
 use Rattle.model.proofs.Sums.{sum-congr, sum-change}
 
 -- u where the test passes, and v where not
@@ -42,10 +42,6 @@ module _ (x : ℕ → ℕ → ℕ) (k j v : ℕ) where
 module _ (S : Setting) (row : Row) (A : Doses) where
   open Setting S using (doses, intervals)
 
-  -- what all doses have in all intervals
-  abbrev pub total : (ℕ → ℕ → ℕ) → ℕ
-  total x = sum doses (λ k. got S row A x k)
-
   module _ (x : ℕ → ℕ → ℕ) (k j v : ℕ) (kn : k < doses) (jJ : j < intervals) where
     -- the changed shares
     abbrev y : ℕ → ℕ → ℕ
@@ -65,7 +61,7 @@ module _ (S : Setting) (row : Row) (A : Doses) where
     given-other b d = sum-congr doses (λ a l. put-other-interval x k j v a b d)
 
     -- all that is given out changes as the share does
-    pub total-put : total y + x k j ≡ total x + v
+    pub total-put : sharesTotal S row A y + x k j ≡ sharesTotal S row A x + v
     total-put = omega (arith, got-put, sum-change doses (λ a. got S row A x a) (λ a. got S row A y a) k kn (λ a l d. sym (got-other a d)))
 
     -- the new share is within its room, and the dose's need and the reserved time bear the change

@@ -10,10 +10,10 @@ use native.Mathlib.Omega.{arith}
 use lib.Dec.{T, ltb, ltb→lt, lt→ltb}
 use Rattle.model.specs.Sets.{sum, Doses, weight, Sub, Nonempty}
 use Rattle.model.specs.Classes.{Setting, Row, W}
-use Rattle.model.specs.Shares.{need, holds, got, given, Within, Closed}
+use Rattle.model.specs.Shares.{need, holds, got, given, Within, Leaves, Closed, sharesTotal}
 use Rattle.model.proofs.Sums.{sum-congr, sum-le, sum-zero}
 use Rattle.model.proofs.Sets.{weight-mono, weight-pos, weight-same, le-weight, and-left, and-right, and-both, or-left, or-right, or-elim, on-pos, on-yes, size, size-all}
-use Rattle.model.proofs.Raise.{total, put, put-other-dose, put-other-interval, got-put, given-put, given-other, total-put, put-within}
+use Rattle.model.proofs.Raise.{put, put-other-dose, put-other-interval, got-put, given-put, given-other, total-put, put-within}
 
 -- some number below n passes the test
 unfoldable found : ℕ → (ℕ → Bool) → Bool
@@ -35,33 +35,33 @@ test false = inr (λ t. t)
 module _ (S : Setting) (row : Row) (A : Doses) where
   open Setting S using (doses, intervals, active, len)
 
-  -- dose k of R leads to interval j: it is active there, with a share below the whole interval
-  record Leads (x : ℕ → ℕ → ℕ) (R : Doses) (j k : ℕ) : Type 0 where
-    below : k < doses
-    member : T (R k)
-    live : T (active k j)
-    less : x k j < len j * W S A
+  -- dose k of R leads to interval j: a chain can leave it there
+  pub record Leads (x : ℕ → ℕ → ℕ) (R : Doses) (j k : ℕ) : Type 0 where
+    pub member : T (R k)
+    pub leaves : Leaves S row A x k j
 
   module _ (x : ℕ → ℕ → ℕ) where
     -- some dose of R leads to interval j
-    unfoldable next : Doses → ℕ → Bool
+    pub next : Doses → ℕ → Bool
     next R j = found doses (λ k. R k && (active k j && ltb (x k j) (len j * W S A)))
 
-    next-leads : (R : Doses) (j : ℕ) → T (next R j) → (k : ℕ) × Leads x R j k
+    pub next-leads : (R : Doses) (j : ℕ) → j < intervals → T (next R j) → (k : ℕ) × Leads x R j k
     unfolding next
-    next-leads R j t =
+    next-leads R j l t =
         let r = found-some doses _ t in
         let k = r .0 in
         let q = and-right (R k) _ (r .2) in
-        (k, record { below = r .1; member = and-left (R k) _ (r .2); live = and-left (active k j) _ q; less = ltb→lt _ _ (and-right (active k j) _ q) })
+        let way : Leaves S row A x k j = record { dose = r .1; interval = l; live = and-left (active k j) _ q; less = ltb→lt _ _ (and-right (active k j) _ q) } in
+        (k, record { member = and-left (R k) _ (r .2); leaves = way })
 
     leads-next : (R : Doses) (j k : ℕ) → Leads x R j k → T (next R j)
     unfolding next
     leads-next R j k h =
-        some-found doses _ k (h .below) (and-both (R k) _ (h .member) (and-both (active k j) _ (h .live) (lt→ltb _ _ (h .less))))
+        let way = h .leaves in
+        some-found doses _ k (way .dose) (and-both (R k) _ (h .member) (and-both (active k j) _ (way .live) (lt→ltb _ _ (way .less))))
 
     -- the doses that chains from the short doses reach in t rounds
-    unfoldable reached : ℕ → Doses
+    pub reached : ℕ → Doses
     reached zero k = A k && ltb (got S row A x k) (need S row A k)
     reached (suc t) k = reached t k || found intervals (λ j. next (reached t) j && ltb 0 (x k j))
 
@@ -80,13 +80,13 @@ module _ (S : Setting) (row : Row) (A : Doses) where
     back-reached t k j l q p = or-right (reached t k) _ (some-found intervals _ j l (and-both (next (reached t) j) _ q (lt→ltb _ _ p)))
 
     -- dose k has a share in an interval that a dose of round t leads to
-    record Back (t k : ℕ) : Type 0 where
-      via : ℕ
-      inner : via < intervals
-      led : T (next (reached t) via)
-      some : 0 < x k via
+    pub record Back (t k : ℕ) : Type 0 where
+      pub via : ℕ
+      pub inner : via < intervals
+      pub led : T (next (reached t) via)
+      pub some : 0 < x k via
 
-    reached-back : (t k : ℕ) → T (reached (suc t) k) → T (reached t k) ⊎ Back t k
+    pub reached-back : (t k : ℕ) → T (reached (suc t) k) → T (reached t k) ⊎ Back t k
     unfolding reached
     reached-back t k h = or-elim (reached t k) _ h inl (λ f.
         let r = found-some intervals _ f in
@@ -94,11 +94,11 @@ module _ (S : Setting) (row : Row) (A : Doses) where
         inr (record { via = j; inner = r .1; led = and-left (next (reached t) j) _ (r .2); some = ltb→lt _ _ (and-right (next (reached t) j) _ (r .2)) }))
 
     -- round 0 has short doses of A, and all rounds have doses of A
-    reached-short : (k : ℕ) → T (reached 0 k) → got S row A x k < need S row A k
+    pub reached-short : (k : ℕ) → T (reached 0 k) → got S row A x k < need S row A k
     unfolding reached
     reached-short k h = ltb→lt _ _ (and-right (A k) _ h)
 
-    reached-first : (k : ℕ) → T (reached 0 k) → T (A k)
+    pub reached-first : (k : ℕ) → T (reached 0 k) → T (A k)
     unfolding reached
     reached-first k h = and-left (A k) _ h
 
@@ -122,13 +122,15 @@ module _ (S : Setting) (row : Row) (A : Doses) where
   -- y has other shares than x for dose k alone, and k is not reached from x: what is reached from x is reached from y
   module _ (x y : ℕ → ℕ → ℕ) (k : ℕ) (same : (a b : ℕ) → a ≢ k → y a b ≡ x a b) where
     -- an interval that a dose of R leads to, k not in R
-    next-kept : (R Q : Doses) → (T (R k) → ⊥) → Sub doses R Q → (j : ℕ) → T (next x R j) → T (next y Q j)
-    next-kept R Q n h j t =
-        let r = next-leads x R j t in
+    next-kept : (R Q : Doses) → (T (R k) → ⊥) → Sub doses R Q → (j : ℕ) → j < intervals → T (next x R j) → T (next y Q j)
+    next-kept R Q n h j l t =
+        let r = next-leads x R j l t in
         let a = r .0 in
         let g = r .1 in
+        let way = g .leaves in
         let e : y a j ≡ x a j = same a j (λ e. n (rw e at (g .member))) in
-        leads-next y Q j a (record { below = g .below; member = h a (g .below) (g .member); live = g .live; less = rw e (g .less) })
+        let kept : Leaves S row A y a j = record { dose = way .dose; interval = l; live = way .live; less = rw e (way .less) } in
+        leads-next y Q j a (record { member = h a (way .dose) (g .member); leaves = kept })
 
     reached-kept : (t : ℕ) → (T (reached x t k) → ⊥) → Sub doses (reached x t) (reached y t)
     reached-kept zero n a l h =
@@ -138,33 +140,37 @@ module _ (S : Setting) (row : Row) (A : Doses) where
         let n′ : T (reached x t k) → ⊥ = λ r. n (reached-later x t k r) in
         elim (reached-back x t a h) [
           | inl r ↦ reached-later y t a (reached-kept t n′ a l r)
-          | inr b ↦ back-reached y t a (b .via) (b .inner) (next-kept (reached x t) (reached y t) n′ (reached-kept t n′) (b .via) (b .led))
+          | inr b ↦ back-reached y t a (b .via) (b .inner) (next-kept (reached x t) (reached y t) n′ (reached-kept t n′) (b .via) (b .inner) (b .led))
               (rw (same a (b .via) (λ e. n (rw e at h))) (b .some))
         ]
 
   -- shares within the bounds that give out more than x
-  record More (x : ℕ → ℕ → ℕ) : Type 0 where
-    shares : ℕ → ℕ → ℕ
-    within : Within S row A shares
-    more : total S row A x < total S row A shares
+  pub record More (x : ℕ → ℕ → ℕ) : Type 0 where
+    pub shares : ℕ → ℕ → ℕ
+    pub within : Within S row A shares
+    pub more : sharesTotal S row A x < sharesTotal S row A shares
 
   -- in x, interval j has spare time and is reached in t rounds
-  record Spare (t : ℕ) (x : ℕ → ℕ → ℕ) (j : ℕ) : Type 0 where
-    within : Within S row A x
-    inner : j < intervals
-    led : T (next x (reached x t) j)
-    spare : given S row A x j < holds S row A j
+  pub record Spare (t : ℕ) (x : ℕ → ℕ → ℕ) (j : ℕ) : Type 0 where
+    pub within : Within S row A x
+    pub inner : j < intervals
+    pub led : T (next x (reached x t) j)
+    pub spare : given S row A x j < holds S row A j
 
   -- a short dose can be given one unit more where it is active and there is spare time
-  give-within : (x : ℕ → ℕ → ℕ) (k j : ℕ) → Within S row A x → k < doses → j < intervals → T (A k) → T (active k j) → x k j < len j * W S A
+  give-within : (x : ℕ → ℕ → ℕ) (k j : ℕ) → Within S row A x → T (A k) → Leaves S row A x k j
       → got S row A x k < need S row A k → given S row A x j < holds S row A j → Within S row A (put x k j (suc (x k j)))
-  give-within x k j w kn jJ a c u g h =
-      put-within S row A x k j (suc (x k j)) kn jJ w (rw (on-yes (A k && active k j) (len j * W S A) (and-both (A k) _ a c)) u) (omega arith) (omega arith)
+  give-within x k j w a way g h =
+      put-within S row A x k j (suc (x k j)) (way .dose) (way .interval) w
+      (rw (on-yes (A k && active k j) (len j * W S A) (and-both (A k) _ a (way .live))) (way .less)) (omega arith) (omega arith)
 
   -- dose k is first reached in round t + 1, by its share in interval i, and leads to interval j with spare time: one unit of it moves from i to j
   module _ (t : ℕ) (x : ℕ → ℕ → ℕ) (j : ℕ) (s : Spare (suc t) x j) (k : ℕ) (g : Leads x (reached x (suc t)) j k) (b : Back x t k) (d : b .via ≢ j) where
     abbrev i : ℕ
     i = b .via
+
+    abbrev kn : k < doses
+    kn = g .leaves .dose
 
     abbrev lower : ℕ → ℕ → ℕ
     lower = put x k i (x k i - 1)
@@ -175,34 +181,36 @@ module _ (S : Setting) (row : Row) (A : Doses) where
     lower-within : Within S row A lower
     lower-within =
         let w = s .within in
-        put-within S row A x k i (x k i - 1) (g .below) (b .inner) w (omega (arith, w .roomy k i (g .below) (b .inner)))
-        (omega (arith, w .held i (b .inner))) (omega (arith, w .needed k (g .below)))
+        put-within S row A x k i (x k i - 1) kn (b .inner) w (omega (arith, w .roomy k i kn (b .inner)))
+        (omega (arith, w .held i (b .inner))) (omega (arith, w .needed k kn))
 
     lower-here : lower k j ≡ x k j
     lower-here = put-other-interval x k i _ k j (λ e. d (sym e))
 
     lower-got : got S row A lower k + 1 ≡ got S row A x k
-    lower-got = omega (arith, got-put S row A x k i (x k i - 1) (g .below) (b .inner), b .some)
+    lower-got = omega (arith, got-put S row A x k i (x k i - 1) kn (b .inner), b .some)
 
     lower-given : given S row A lower j ≡ given S row A x j
-    lower-given = given-other S row A x k i _ (g .below) (b .inner) j (λ e. d (sym e))
+    lower-given = given-other S row A x k i _ kn (b .inner) j (λ e. d (sym e))
 
     moved-within : Within S row A moved
-    moved-within = give-within lower k j lower-within (g .below) (s .inner) (reached-inside x (s .within) (suc t) k (g .below) (g .member)) (g .live)
-        (rw lower-here (g .less)) (omega (arith, lower-got, s .within .needed k (g .below))) (rw lower-given (s .spare))
+    moved-within =
+        let way : Leaves S row A lower k j = record { dose = kn; interval = s .inner; live = g .leaves .live; less = rw lower-here (g .leaves .less) } in
+        give-within lower k j lower-within (reached-inside x (s .within) (suc t) k kn (g .member)) way
+        (omega (arith, lower-got, s .within .needed k kn)) (rw lower-given (s .spare))
 
-    moved-total : total S row A moved ≡ total S row A x
-    moved-total = omega (arith, total-put S row A x k i (x k i - 1) (g .below) (b .inner), total-put S row A lower k j (suc (lower k j)) (g .below) (s .inner), b .some)
+    moved-total : sharesTotal S row A moved ≡ sharesTotal S row A x
+    moved-total = omega (arith, total-put S row A x k i (x k i - 1) kn (b .inner), total-put S row A lower k j (suc (lower k j)) kn (s .inner), b .some)
 
     moved-spare : (T (reached x t k) → ⊥) → Spare t moved i
     moved-spare n = record {
       within = moved-within;
       inner = b .inner;
-      led = next-kept x moved k same (reached x t) (reached moved t) n (reached-kept x moved k same t n) i (b .led);
+      led = next-kept x moved k same (reached x t) (reached moved t) n (reached-kept x moved k same t n) i (b .inner) (b .led);
       spare = omega (
         arith,
-        given-other S row A lower k j (suc (lower k j)) (g .below) (s .inner) i d,
-        given-put S row A x k i (x k i - 1) (g .below) (b .inner),
+        given-other S row A lower k j (suc (lower k j)) kn (s .inner) i d,
+        given-put S row A x k i (x k i - 1) kn (b .inner),
         b .some,
         s .within .held i (b .inner),
       );
@@ -231,41 +239,41 @@ module _ (S : Setting) (row : Row) (A : Doses) where
       sooner q = shorter x j (record { within = s .within; inner = s .inner; led = q; spare = s .spare })
 
       early : T (reached x t k) → More x
-      early r = sooner (leads-next x (reached x t) j k (record { below = g .below; member = r; live = g .live; less = g .less }))
+      early r = sooner (leads-next x (reached x t) j k (record { member = r; leaves = g .leaves }))
 
   -- an interval with spare time that a chain reaches: one unit more can be given out
   raise : (t : ℕ) (x : ℕ → ℕ → ℕ) (j : ℕ) → Spare t x j → More x
   raise zero x j s =
-      let r = next-leads x (reached x 0) j (s .led) in
+      let r = next-leads x (reached x 0) j (s .inner) (s .led) in
       let k = r .0 in
       let g = r .1 in
       record {
         shares = put x k j (suc (x k j));
-        within = give-within x k j (s .within) (g .below) (s .inner) (reached-first x k (g .member)) (g .live) (g .less) (reached-short x k (g .member)) (s .spare);
-        more = omega (arith, total-put S row A x k j (suc (x k j)) (g .below) (s .inner));
+        within = give-within x k j (s .within) (reached-first x k (g .member)) (g .leaves) (reached-short x k (g .member)) (s .spare);
+        more = omega (arith, total-put S row A x k j (suc (x k j)) (g .leaves .dose) (s .inner));
       }
   raise (suc t) x j s =
-      let r = next-leads x (reached x (suc t)) j (s .led) in
+      let r = next-leads x (reached x (suc t)) j (s .inner) (s .led) in
       raise-more t (raise t) x j s (r .0) (r .1)
 
   -- no chain from the shares x leads on to spare time
-  Ended : (ℕ → ℕ → ℕ) → Type 0
+  abbrev pub Ended : (ℕ → ℕ → ℕ) → Type 0
   Ended x = (R : Doses) × (Q : ℕ → Bool) × Closed S row A x R Q
 
-  ended-or-more : (x : ℕ → ℕ → ℕ) → Within S row A x → Ended x ⊎ More x
-  unfolding Ended
-  ended-or-more x w = elim (test (found intervals spares)) [
+  -- or the rounds reach spare time
+  pub ended-or-spare : (x : ℕ → ℕ → ℕ) → Within S row A x → Ended x ⊎ ((t : ℕ) × (j : ℕ) × Spare t x j)
+  ended-or-spare x w = elim (test (found intervals spares)) [
     | inl f ↦
         let r = found-some intervals spares f in
         let j = r .0 in
-        inr (raise t x j (record { within = w; inner = r .1; led = and-left (Q j) _ (r .2); spare = ltb→lt _ _ (and-right (Q j) _ (r .2)) }))
+        inr (t, j, record { within = w; inner = r .1; led = and-left (Q j) _ (r .2); spare = ltb→lt _ _ (and-right (Q j) _ (r .2)) })
     | inr n ↦ inl (
       R,
       Q,
       record {
         inside = reached-inside x w t;
         shorts = λ k l. short-reached x t k;
-        out = λ k j l m r c u. leads-next x R j k (record { below = l; member = r; live = c; less = u });
+        out = λ k j r way. leads-next x R j k (record { member = r; leaves = way });
         back = λ k j l m q p. last .1 k l (back-reached x t k j m q p);
         spent = λ j l q. elim (eq-or-lt-of-le (w .held j l)) [ inl e ↦ e | inr u ↦ absurd (n (some-found intervals spares j l (and-both (Q j) _ q (lt→ltb _ _ u)))) ];
       },
@@ -287,13 +295,16 @@ module _ (S : Setting) (row : Row) (A : Doses) where
       spares : ℕ → Bool
       spares j = Q j && ltb (given S row A x j) (holds S row A j)
 
+  -- and then more can be given out
+  pub ended-or-more : (x : ℕ → ℕ → ℕ) → Within S row A x → Ended x ⊎ More x
+  ended-or-more x w = elim (ended-or-spare x w) [ inl c ↦ inl c | inr s ↦ inr (raise (s .0) x (s .1) (s .2)) ]
+
   -- shares within the bounds that no chain can raise
-  Result : Type 0
+  abbrev pub Result : Type 0
   Result = (x : ℕ → ℕ → ℕ) × Within S row A x × (R : Doses) × (Q : ℕ → Bool) × Closed S row A x R Q
 
   -- to there, from shares within the bounds that are at most d below all needs together
-  climb : (d : ℕ) (x : ℕ → ℕ → ℕ) → Within S row A x → sum doses (λ k. need S row A k) ≤ total S row A x + d → Result
-  unfolding Ended Result
+  climb : (d : ℕ) (x : ℕ → ℕ → ℕ) → Within S row A x → sum doses (λ k. need S row A k) ≤ sharesTotal S row A x + d → Result
   climb zero x w h = elim (ended-or-more x w) [
     | inl c ↦ (x, w, c .0, c .1, c .2)
     | inr m ↦ absurd (omega (arith, m .more, sum-le doses (m .within .needed)))
@@ -304,9 +315,7 @@ module _ (S : Setting) (row : Row) (A : Doses) where
   ]
 
 -- valid or not, there are shares within the bounds that no chain can raise
-pub shares-exist : (S : Setting) (row : Row) (A : Doses)
-    → (x : ℕ → ℕ → ℕ) × Within S row A x × (R : Doses) × (Q : ℕ → Bool) × Closed S row A x R Q
-unfolding Result
+pub shares-exist : (S : Setting) (row : Row) (A : Doses) → Result S row A
 shares-exist S row A = climb S row A (sum (S .doses) (λ k. need S row A k)) (λ k j. 0) none (omega arith)
   where
     none : Within S row A (λ k j. 0)

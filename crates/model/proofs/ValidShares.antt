@@ -1,5 +1,4 @@
 -- Every order that fits has its classes, and every class has valid shares.
-use mathlib.Core.Bool.{true}
 use mathlib.Core.Logic.{inl, inr}
 use mathlib.Core.Path.{_∙_, _≡_}
 use Prim.Native.Nat.{ℕ, _*_, _≤_, _<_}
@@ -13,10 +12,10 @@ use Rattle.model.specs.Intervals.{fansPresent, settingOf}
 use Rattle.model.specs.Shares.{Valid, Within, given, got, holds, missing, need, short}
 use Rattle.model.specs.Answers.{ValidShares}
 use Rattle.model.proofs.Sums.{sum-congr, sum-scale, sum-swap, sum-tight}
-use Rattle.model.proofs.Sets.{le-weight, weight-all, weight-mono, weight-on-set, weight-scale}
+use Rattle.model.proofs.Sets.{le-weight}
 use Rattle.model.proofs.Fractions.{compare≤}
 use Rattle.model.proofs.NextClass.{no-denser}
-use Rattle.model.proofs.Chains.{denser-part, some-part}
+use Rattle.model.proofs.Chains.{denser-part, given-out, some-part}
 use Rattle.model.proofs.Sequence.{classes-exist, remaining-open}
 use Rattle.model.proofs.Shares.{shares-exist}
 use Rattle.model.proofs.Orders.{Fit}
@@ -35,16 +34,7 @@ module _ (S : Setting) (row : Row) (A : Doses) where
     meets k l t = omega (arith, le-weight n (short S row A x) A k l t, w .needed k l)
 
     given-all : sum J (holds S row A) ≤ sum J (given S row A x)
-    given-all =
-        omega (
-          arith,
-          holds-all,
-          sum-swap n J x,
-          weight-all n (got S row A x),
-          weight-mono n (got S row A x) A (λ k. true) (λ k l t. tt),
-          weight-on-set n (got S row A x) (λ k. P S row A * grams k) A (λ k l t. omega (arith, meets k l t)),
-          weight-scale n (P S row A) grams A,
-        )
+    given-all = omega (arith, holds-all, given-out S row A x w, sum-swap n J x)
 
     -- shares within the bounds, with nothing missing, are valid
     pub valid-if-met : Valid S row A x

@@ -50,12 +50,35 @@ module _ (S : Setting) (row : Row) (A : Doses) where
     abbrev pub missing : ℕ
     missing = weight doses short A
 
-    -- "a chain goes from a dose to an interval and from an interval back to a dose, leaving a dose by an interval where its share
-    -- is below L × W, and an interval by a dose with a share above zero there": no chain leads out of the doses R and the
-    -- intervals Q, every short dose is in R, and no interval of Q has spare reserved time
+    -- "leaving a dose by an interval where its share is below L × W": dose k by interval j, where it is active
+    pub record Leaves (k j : ℕ) : Type 0 where
+      pub dose : k < doses
+      pub interval : j < intervals
+      pub live : T (active k j)
+      pub less : x k j < len j * W S A
+
+    -- "a chain goes from a dose to an interval and from an interval back to a dose": from dose k to the interval where it ends,
+    -- leaving an interval i "by a dose with a share above zero there", dose m
+    pub data Chain (k : ℕ) : ℕ → Type 0 where
+      out : (j : ℕ) → Leaves k j → Chain k j
+      onward : (i m j : ℕ) → Chain k i → 0 < x m i → Leaves m j → Chain k j
+
+    -- "no chain leads from a dose short of its need to an interval with spare reserved time"
+    abbrev pub NoChain : Type 0
+    NoChain = (k j : ℕ) → T (A k) → got k < need k → Chain k j → given j < holds j → ⊥
+
+    -- no chain leads out of the doses R and the intervals Q, every short dose is in R, and no interval of Q has spare reserved time
     pub record Closed (R : Doses) (Q : ℕ → Bool) : Type 0 where
       pub inside : Sub doses R A
       pub shorts : (k : ℕ) → k < doses → T (A k) → got k < need k → T (R k)
-      pub out : (k j : ℕ) → k < doses → j < intervals → T (R k) → T (active k j) → x k j < len j * W S A → T (Q j)
+      pub out : (k j : ℕ) → T (R k) → Leaves k j → T (Q j)
       pub back : (k j : ℕ) → k < doses → j < intervals → T (Q j) → 0 < x k j → T (R k)
       pub spent : (j : ℕ) → j < intervals → T (Q j) → given j ≡ holds j
+
+  -- "The shares' total": what all doses have in all intervals
+  abbrev pub sharesTotal : (ℕ → ℕ → ℕ) → ℕ
+  sharesTotal x = sum doses (λ k. got x k)
+
+  -- it "is greatest": no shares within the bounds have more
+  abbrev pub Greatest : (ℕ → ℕ → ℕ) → Type 0
+  Greatest x = (y : ℕ → ℕ → ℕ) → Within y → sharesTotal y ≤ sharesTotal x

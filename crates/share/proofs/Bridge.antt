@@ -83,9 +83,10 @@ module _ (S : Setting) (row : Row) (A : Doses) (rooms holds needs : List ℕ) wh
       inside = λ k l t. and-right (getD s k false) (A k) t;
       shorts = λ k l t h. and-both (getD s k false) (A k)
           (true-T (p .met k (dose-in l) (omega (arith, totals-got k l, asked .need k l, on-yes (A k) (model.need S row A k) t)))) t;
-      out = λ k j l m r t h.
-          true-T (p .dead .doses k j (dose-in l) (interval-in m) (T-true (getD s k false) (and-left (getD s k false) (A k) r))
-          (omega (arith, asked .room k j l m, on-yes (A k && active k j) (len j * W S A) (and-both (A k) (active k j) (and-right (getD s k false) (A k) r) t))));
+      out = λ k j r way.
+          let in-room = and-both (A k) (active k j) (and-right (getD s k false) (A k) r) (way .live) in
+          true-T (p .dead .doses k j (dose-in (way .dose)) (interval-in (way .interval)) (T-true (getD s k false) (and-left (getD s k false) (A k) r))
+          (omega (arith, asked .room k j (way .dose) (way .interval), on-yes (A k && active k j) (len j * W S A) in-room, way .less)));
       back = λ k j l m t h.
           let room : 0 < model.room S row A k j = omega (arith, asked .room k j l m, p .within .bounded .roomy k j (dose-in l) (interval-in m)) in
           and-both (getD s k false) (A k)
