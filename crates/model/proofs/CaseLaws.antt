@@ -1,5 +1,5 @@
 -- What the tests of CaseTests show: of numbers and sets, of the next class, of shares, of equality. Assumes nothing.
-use mathlib.Core.Path.{_≡_, refl, sym, ap, ap₂}
+use mathlib.Core.Path.{_≡_, refl, ap, ap₂}
 use mathlib.Core.Bool.{Bool, true, false, not, _&&_, _||_}
 use mathlib.Core.Logic.{_⊎_, inl, inr}
 use mathlib.Core.List.{List, [], _∷_}
@@ -13,12 +13,11 @@ use Rattle.model.specs.Shares.{Valid, room, holds, need, got, given}
 use Rattle.model.proofs.Sums.{last}
 use Rattle.model.proofs.Sets.{Alike, alike-sub, alike-back, and-left, and-right, and-both, weight-alike}
 use Rattle.model.proofs.FanTime.{P-alike}
-use Rattle.model.proofs.NextClass.{next-transport}
 use Rattle.model.specs.Plans.{Class, Slot}
 use Rattle.model.specs.Line.{State, finished, shut, idle, dosing, Point}
 use Rattle.model.specs.Answers.{Answer}
 use Rattle.model.proofs.Orders.{three, four}
-use Rattle.model.specs.CaseTests.{allBelow, everySet, marked, insideTest, someTest, givesWay, nextTest, aloneTest, roomTest, fullTest, metTest, validTest, sameList, sameClass, sameSlot, sameState, samePoint, sameAnswer, emptyList}
+use Rattle.model.specs.CaseTests.{allBelow, everySet, marked, insideTest, someTest, givesWay, nextTest, roomTest, fullTest, metTest, validTest, sameList, sameClass, sameSlot, sameState, samePoint, sameAnswer, emptyList}
 
 -- ---- what the tests of all members show
 
@@ -65,13 +64,6 @@ every-set (suc n) f t B =
     go : (b : Bool) → T (f (false ∷ marks n (λ k. B (suc k)))) → T (f (true ∷ marks n (λ k. B (suc k)))) → T (f (b ∷ marks n (λ k. B (suc k))))
     go false x y = x
     go true x y = y
-
-set-every : (n : ℕ) (f : List Bool → Bool) → ((m : List Bool) → T (f m)) → T (everySet n f)
-unfolding everySet
-set-every zero f h = h []
-set-every (suc n) f h =
-    and-both (everySet n (λ m. f (false ∷ m))) (everySet n (λ m. f (true ∷ m)))
-    (set-every n (λ m. f (false ∷ m)) (λ m. h (false ∷ m))) (set-every n (λ m. f (true ∷ m)) (λ m. h (true ∷ m)))
 
 -- ---- sets
 
@@ -123,17 +115,6 @@ module _ (S : Setting) where
         regroup true b c x = x
         regroup false b c x = tt
 
-    gives-way-back : (A B : Doses) → NextClass S row rest A → T (givesWay S row rest A B)
-    unfolding givesWay
-    gives-way-back A B a = go (insideTest S B rest) (someTest S B) (inside B rest) (some B)
-      where
-        go : (i s : Bool) → (T i → Sub n B rest) → (T s → Nonempty n B) → T (not i || not s || (noDenser S row B A && (not (asDense S row B A) || insideTest S B A)))
-        go false s f g = tt
-        go true false f g = tt
-        go true true f g =
-            and-both (noDenser S row B A) _ (a .greatest B (f tt) (g tt))
-            (so-then (asDense S row B A) (insideTest S B A) (λ e. inside-back B A (a .largest B (f tt) (g tt) e)))
-
     -- a set that passes is the next class
     pub next : (A : Doses) → T (nextTest S row rest A) → NextClass S row rest A
     unfolding nextTest
@@ -151,24 +132,6 @@ module _ (S : Setting) where
             gives-way A (marked (marks n B)) (every-set n (λ m. givesWay S row rest A (marked m)) (and-right (insideTest S A rest && someTest S A) _ t) B)
             (λ k l u. h k l (alike-sub n _ _ (marks-alike n B) k l u))
             (w .0, w .1, alike-back n _ _ (marks-alike n B) (w .0) (w .1) (w .2))
-
-    next-back : (A : Doses) → NextClass S row rest A → T (nextTest S row rest A)
-    unfolding nextTest
-    next-back A a =
-        and-both (insideTest S A rest && someTest S A) _ (and-both (insideTest S A rest) (someTest S A) (inside-back A rest (a .within)) (some-back A (a .some)))
-        (set-every n (λ m. givesWay S row rest A (marked m)) (λ m. gives-way-back A (marked m) a))
-
-    -- and where the second test passes too, the only one
-    pub alone : (A : Doses) → T (aloneTest S row rest A) → (B : Doses) → NextClass S row rest B → Sub n B A × Sub n A B
-    unfolding aloneTest
-    alone A t B b =
-        let B′ : Doses = marked (marks n B) in
-        let b′ : NextClass S row rest B′ = next-transport S row row rest rest B B′ (λ j. refl) (λ k l. refl) (λ k l. sym (marks-alike n B k l)) b in
-        let u = then-so (nextTest S row rest B′) (insideTest S B′ A && insideTest S A B′)
-        (every-set n (λ m. not (nextTest S row rest (marked m)) || (insideTest S (marked m) A && insideTest S A (marked m))) t B) (next-back B′ b′) in (
-          λ k l s. inside B′ A (and-left (insideTest S B′ A) (insideTest S A B′) u) k l (alike-back n B′ B (marks-alike n B) k l s),
-          λ k l s. alike-sub n B′ B (marks-alike n B) k l (inside A B′ (and-right (insideTest S B′ A) (insideTest S A B′) u) k l s),
-        )
 
   -- shares that pass are valid
   pub valid : (row : Row) (A : Doses) (x : ℕ → ℕ → ℕ) → T (validTest S row A x) → Valid S row A x

@@ -1,12 +1,14 @@
 -- The table of cases: a row that passes the computed test is right by the definitions, and every row passes. Assumes nothing.
 use mathlib.Core.Path.{_≡_, refl, sym, ap, ap₂, _∙_}
 use mathlib.Core.Bool.{Bool, true, false, not, _&&_}
+use mathlib.Core.Logic.{inl, inr}
 use mathlib.Core.List.{List, [], _∷_}
 use Prim.Native.Nat.{ℕ, suc, _≤_, _<_}
+use native.Mathlib.Nat.{eq-zero-or-pos}
 use native.Mathlib.Omega.{arith}
-use lib.Dec.{T, T-not, eqb, leb, eqb→eq, leb→le}
+use lib.Dec.{T, T-not, eqb, leb, leb→le}
 use lib.ListN.{length}
-use Rattle.model.specs.Sets.{Doses, Sub}
+use Rattle.model.specs.Sets.{Doses}
 use Rattle.model.specs.Lists.{All, none, also}
 use Rattle.model.specs.Records.{Reading, read, refused, pick}
 use Rattle.model.specs.Orders.{Order, readOrder}
@@ -16,16 +18,21 @@ use Rattle.model.specs.Plans.{Class, Slot, recordsBytes, planOf, slotsRe
 use Rattle.model.specs.Layout.{slotsOf, classAt, classesOf}
 use Rattle.model.specs.Line.{pointAt}
 use Rattle.model.specs.Stands.{Stands}
-use Rattle.model.specs.Answers.{Answer, refusal, done, aboveTop, tooFast, FirstClass, Refuses, unread, above, Accepts, ValidShares, planBytes, planRoom, overwritten, Plans, Judges, Draws, Moves, week}
-use Rattle.model.specs.Cases.{Case, Drawing, DrawingRight, Right, caseSets, casePlan, cases}
-use Rattle.model.proofs.Sets.{and-left, and-right, or-elim, alike, weight-alike}
+use Rattle.model.specs.Answers.{Answer, refusal, done, aboveTop, tooFast, FirstClass, Refuses, unread, above, Accepts, Planned, ValidShares, planBytes, planRoom, overwritten, Plans, Judges, Draws, Moves, week}
+use Rattle.model.specs.Cases.{Case, Drawing, DrawingRight, SameDoses, SetsRight, Right, caseSets, casePlan, casePlanned, cases}
+use Rattle.model.specs.CaseTests.{allBelow, allIn, caseTest, readingTest, nothingTest, classTest, validTest, forcedTest, sharesTest, pointTest, samePoint, fastTest, doneTest, slowTest, recordsTest, planTest, caseShares, emptyList, sameAnswer, sameList, sameClass, sameSlot, cases-pass}
+use Rattle.model.proofs.Sets.{and-left, and-right, or-elim, Alike, alike-sub, alike-back, weight-alike}
 use Rattle.model.proofs.FanTime.{P-alike}
+use Rattle.model.proofs.NextClass.{next-unique}
+use Rattle.model.proofs.Sequence.{classes-unique, count-unique}
 use Rattle.model.proofs.Orders.{Fit, three, no-refusal, read-fits}
 use Rattle.model.proofs.Lists.{length-singles}
 use Rattle.model.proofs.Planner.{plan-stands, plan-reads}
 use Rattle.model.proofs.Plans.{slots-read}
-use Rattle.model.specs.CaseTests.{allBelow, allIn, caseTest, readingTest, nothingTest, classTest, nextTest, aloneTest, sharesTest, pointTest, samePoint, fastTest, doneTest, slowTest, recordsTest, planTest, caseShares, emptyList, sameAnswer, sameList, sameClass, sameSlot, cases-pass}
-use Rattle.model.proofs.CaseLaws.{all-below, next, alone, valid, same-list, same-class, same-slot, same-point, same-answer, empty-list}
+use Rattle.model.proofs.Refusing.{first-class}
+use Rattle.model.proofs.Answers.{refuses-one, refused-not-accepted}
+use Rattle.model.proofs.CaseLaws.{all-below, next, valid, same-list, same-class, same-slot, same-point, same-answer, empty-list}
+use Rattle.model.proofs.ForcedShares.{one-plan}
 
 -- ---- a row that is refused
 
@@ -36,16 +43,27 @@ module _ (c : Case) (a : Answer) (h : Refuses (c .order) a) (same : a ≡ c .ans
       let r = three (emptyList (c .classes)) (emptyList (c .slots)) (emptyList (c .points)) t in
       (empty-list (c .classes) (r .0), empty-list (c .slots) (r .1), empty-list (c .points) (r .2))
 
-  refused-right : ((o : Order) → readOrder (c .order) ≡ read o → (i : ℕ) → i < length (c .sets) → (A : Doses)
-      → NextClass (settingOf o) (free (settingOf o) (fansPresent o) (caseSets c) i) (remaining (caseSets c) i) A
-      → Sub (settingOf o .doses) A (caseSets c i) × Sub (settingOf o .doses) (caseSets c i) A) → Right c
+  refused-right : ((o : Order) → readOrder (c .order) ≡ read o → (A : Doses) → FirstClass o A → SameDoses o A (caseSets c 0)) → Right c
   unfolding recordsBytes
-  refused-right only = record {
-    plans = λ before room. rw (← same, nothing .0, nothing .1) (Plans.refuses room a h);
-    alone = only;
+  refused-right first = record {
+    plans = plan;
+    only = one;
+    first = first;
+    sets = λ o g. absurd (refused-not-accepted h g);
     judged = rw (← same) (Judges.refuses a h);
     points = rw (nothing .2) none;
   }
+    where
+      plan : (before : List ℕ) → planRoom ≤ length before → Plans (c .order) before (casePlanned c) (overwritten before (casePlan c))
+      plan before room = rw (← same, nothing .0, nothing .1) (Plans.refuses room a h)
+
+      one : (before : List ℕ) → planRoom ≤ length before → (r : Planned) (after : List ℕ) → Plans (c .order) before r after
+          → (r ≡ casePlanned c) × (after ≡ overwritten before (casePlan c))
+      one before room r after (Plans.no-room s) = absurd (omega arith)
+      one before room r after (Plans.refuses w b q) =
+          let answer : b ≡ c .answer = refuses-one q h ∙ same in
+          rw (nothing .0, nothing .1) (λ t. record { answer = answer t; classes = 0; slots = 0 }, refl)
+      one before room r after (Plans.plans w o g p C k x v) = absurd (refused-not-accepted h g)
 
 -- ---- a row that is planned
 
@@ -56,42 +74,37 @@ module _ (c : Case) (o : Order) (reads : readOrder (c .order) ≡ read o) where
   abbrev C : ℕ → Doses
   C = caseSets c
 
+  -- the fans that the first i sets leave
+  abbrev fansLeft : ℕ → Row
+  fansLeft = free (settingOf o) (fansPresent o) C
+
   -- an order has one reading
   one-order : (o′ : Order) → readOrder (c .order) ≡ read o′ → o ≡ o′
   one-order o′ e = cc
 
-  module _ (i : ℕ) (t : T (classTest o c i)) where
-    abbrev row : Row
-    row = free (settingOf o) (fansPresent o) C i
+  -- a set of a row that passes is the next class
+  class-next : (i : ℕ) → T (classTest o c i) → NextClass (settingOf o) (fansLeft i) (remaining C i) (C i)
+  unfolding classTest
+  class-next i = next (settingOf o) (fansLeft i) (remaining C i) (C i)
 
-    -- a set of a row that passes is the next class
-    class-next : NextClass (settingOf o) row (remaining C i) (C i)
-    unfolding classTest
-    class-next =
-        next (settingOf o) row (remaining C i) (C i)
-        (and-left (nextTest (settingOf o) row (remaining C i) (C i)) (aloneTest (settingOf o) row (remaining C i) (C i)) t)
+  -- sets that are alike have the same doses
+  same-doses : (A B : Doses) → Alike (settingOf o .doses) A B → SameDoses o A B
+  same-doses A B e = (alike-sub (settingOf o .doses) A B e, alike-back (settingOf o .doses) A B e)
 
-    -- and no other is
-    class-alone : (A : Doses) → NextClass (settingOf o) row (remaining C i) A → Sub (settingOf o .doses) A (C i) × Sub (settingOf o .doses) (C i) A
-    unfolding classTest
-    class-alone =
-        alone (settingOf o) row (remaining C i) (C i)
-        (and-right (nextTest (settingOf o) row (remaining C i) (C i)) (aloneTest (settingOf o) row (remaining C i) (C i)) t)
-
-  only : ((i : ℕ) → i < p → T (classTest o c i)) → (o′ : Order) → readOrder (c .order) ≡ read o′ → (i : ℕ) → i < p → (A : Doses)
-      → NextClass (settingOf o′) (free (settingOf o′) (fansPresent o′) C i) (remaining C i) A
-      → Sub (settingOf o′ .doses) A (C i) × Sub (settingOf o′ .doses) (C i) A
-  only tests o′ e i l = rw (← one-order o′ e) (class-alone i (tests i l))
+  -- what is shown of the order is shown of whatever the row's bytes read as
+  first-of : ((A : Doses) → FirstClass o A → Alike (settingOf o .doses) A (C 0))
+      → (o′ : Order) → readOrder (c .order) ≡ read o′ → (A : Doses) → FirstClass o′ A → SameDoses o′ A (C 0)
+  first-of h o′ e = rw (← one-order o′ e) (λ A a. same-doses A (C 0) (h A a))
 
   -- refused 9
   fast-right : T (fastTest o c) → Right c
   unfolding fastTest free remaining
   fast-right t =
-      let r = three (eqb p 1) (classTest o c 0) (aboveTop o (C 0) && sameAnswer (tooFast o (C 0)) (c .answer) && nothingTest c) t in
-      let q = three (aboveTop o (C 0)) (sameAnswer (tooFast o (C 0)) (c .answer)) (nothingTest c) (r .2) in
-      let one : p ≡ 1 = eqb→eq p 1 (r .0) in
-      refused-right c (tooFast o (C 0)) (above o (C 0) reads (class-next 0 (r .1)) (q .0)) (same-answer (tooFast o (C 0)) (c .answer) (q .1)) (q .2)
-      (only (λ i l. let z : i ≡ 0 = omega arith in rw z (r .1)))
+      let rest = aboveTop o (C 0) && sameAnswer (tooFast o (C 0)) (c .answer) && nothingTest c in
+      let q = three (aboveTop o (C 0)) (sameAnswer (tooFast o (C 0)) (c .answer)) (nothingTest c) (and-right (classTest o c 0) rest t) in
+      let first : FirstClass o (C 0) = class-next 0 (and-left (classTest o c 0) rest t) in
+      refused-right c (tooFast o (C 0)) (above o (C 0) reads first (q .0)) (same-answer (tooFast o (C 0)) (c .answer) (q .1)) (q .2)
+      (first-of (λ A a. next-unique (settingOf o) (fansPresent o) (λ k. true) A (C 0) a first))
 
   -- planned
   module _ (t : T (planTest o c)) where
@@ -118,30 +131,37 @@ module _ (c : Case) (o : Order) (reads : readOrder (c .order) ≡ read o) where
       done = λ k l u. T-not (remaining C p k) (all-below (settingOf o .doses) (doneTest o c) (first .1) k l) u;
     }
 
-    shares : ValidShares o p C x
+    -- the shares of a class are valid, and forced
+    both : (i : ℕ) → i < p → T (validTest (settingOf o) (fansLeft i) (C i) (x i)) × T (allBelow (settingOf o .doses) (forcedTest (settingOf o) (fansLeft i) (C i)))
     unfolding sharesTest
-    shares i l =
-        valid (settingOf o) (free (settingOf o) (fansPresent o) C i) (C i) (x i)
-        (all-below p (sharesTest o c) (and-left (allBelow p (sharesTest o c)) (recordsTest o c) (parts .1)) i l)
+    both i l =
+        let u = all-below p (sharesTest o c) (and-left (allBelow p (sharesTest o c)) (recordsTest o c) (parts .1)) i l in
+        let a = validTest (settingOf o) (fansLeft i) (C i) (x i) in
+        let b = allBelow (settingOf o .doses) (forcedTest (settingOf o) (fansLeft i) (C i)) in
+        (and-left a b u, and-right a b u)
 
-    -- a first class is that of the row, and not above the top rate
+    shares : ValidShares o p C x
+    shares i l = valid (settingOf o) (fansLeft i) (C i) (x i) (both i l .0)
+
+    -- without classes there is no dose, so no first class; else it is that of the row
+    no-first : p ≡ 0 → (A : Doses) → FirstClass o A → ⊥
+    unfolding remaining
+    no-first z A a = let k = a .some in classes .done (k .0) (k .1) (rw z tt)
+
+    first-one : (A : Doses) → FirstClass o A → Alike (settingOf o .doses) A (C 0)
+    first-one A a = elim (eq-zero-or-pos p) [
+      | inl z ↦ absurd (no-first z A a)
+      | inr l ↦ next-unique (settingOf o) (fansPresent o) (λ k. true) A (C 0) a (first-class o p C classes l)
+    ]
+
+    -- and not above the top rate
     not-above : (A : Doses) → FirstClass o A → T (aboveTop o A) → ⊥
-    unfolding slowTest doneTest free remaining
-    not-above A a u = go (c .sets) refl
-      where
-        go : (l : List (List ℕ)) → c .sets ≡ l → ⊥
-        go [] e =
-            let k = a .some in
-            let none-left : T (not (remaining C p (k .0))) = all-below (settingOf o .doses) (doneTest o c) (first .1) (k .0) (k .1) in
-            let zero-sets : p ≡ 0 = ap (λ (l : List (List ℕ)). length l) e in
-            rw zero-sets at none-left
-        go (l ∷ ls) e =
-            let some-sets : 0 < p = omega (arith, ap (λ (l : List (List ℕ)). length l) e) in
-            let r = class-alone 0 (tests 0 some-sets) A a in
-            let same = alike (settingOf o .doses) A (C 0) (r .0) (r .1) in
-            let u′ : T (aboveTop o (C 0)) = rw (weight-alike (settingOf o .doses) (settingOf o .grams) A (C 0) same, P-alike (settingOf o) (fansPresent o) A (C 0) same) at u in
-            or-elim (emptyList (c .sets)) (not (aboveTop o (C 0))) (first .2)
-            (λ z. omega (arith, ap (λ (l : List (List ℕ)). length l) (empty-list (c .sets) z))) (λ z. T-not (aboveTop o (C 0)) z u′)
+    unfolding slowTest
+    not-above A a u =
+        let same = first-one A a in
+        let u′ : T (aboveTop o (C 0)) = rw (weight-alike (settingOf o .doses) (settingOf o .grams) A (C 0) same, P-alike (settingOf o) (fansPresent o) A (C 0) same) at u in
+        or-elim (emptyList (c .sets)) (not (aboveTop o (C 0))) (first .2)
+        (λ z. no-first (ap (λ (l : List (List ℕ)). length l) (empty-list (c .sets) z)) A a) (λ z. T-not (aboveTop o (C 0)) z u′)
 
     accepts : Accepts (c .order) o
     accepts = record { reads = reads; slow = not-above }
@@ -158,8 +178,12 @@ module _ (c : Case) (o : Order) (reads : readOrder (c .order) ≡ read o) where
     same-done : done ≡ c .answer
     same-done = same-answer done (c .answer) (and-right (allIn (pointTest o c) (c .points)) (sameAnswer done (c .answer)) (parts .2))
 
-    same-count : p ≡ length (c .classes)
-    same-count = sym (length-singles p (classAt o p C)) ∙ ap (λ (l : List Class). length l) (same-records .0)
+    -- what is planned, in the row's words
+    same-planned : _≡_ {A = Planned} (record { answer = done; classes = p; slots = length (slotsOf o p C x) }) (casePlanned c)
+    same-planned =
+        let count = sym (length-singles p (classAt o p C)) ∙ ap (λ (l : List Class). length l) (same-records .0) in
+        let slots = ap (λ (l : List Slot). length l) (same-records .1) in
+        λ t. record { answer = same-done t; classes = count t; slots = slots t }
 
     -- the bytes of the row are the planner's
     same-plan : planBytes o p C x ≡ casePlan c
@@ -176,10 +200,26 @@ module _ (c : Case) (o : Order) (reads : readOrder (c .order) ≡ read o) where
         ap (λ (b : List ℕ). slotsRead (planRecords b)) (sym same-plan)
         ∙ slots-read (planBytes o p C x) (classesOf o p C) (slotsOf o p C x) (plan-reads o fit p C classes x shares) ∙ same-records .1
 
-    -- what is planned, in the row's words
-    plans-as : (before : List ℕ) → planRoom ≤ length before → (a : Answer) (n m : ℕ) (b : List ℕ) → done ≡ a → p ≡ n → length (slotsOf o p C x) ≡ m
-        → planBytes o p C x ≡ b → Plans (c .order) before (record { answer = a; classes = n; slots = m }) (overwritten before b)
-    plans-as before room a n m b ea en em eb = rw (← ea, ← en, ← em, ← eb) (Plans.plans room o accepts p C classes x shares)
+    plans-as : (before : List ℕ) → planRoom ≤ length before → (r : Planned) (b : List ℕ)
+        → record { answer = done; classes = p; slots = length (slotsOf o p C x) } ≡ r → planBytes o p C x ≡ b → Plans (c .order) before r (overwritten before b)
+    plans-as before room r b e f = rw (← e, ← f) (Plans.plans room o accepts p C classes x shares)
+
+    -- nothing else is planned
+    only-plan : (before : List ℕ) → planRoom ≤ length before → (r : Planned) (after : List ℕ) → Plans (c .order) before r after
+        → (r ≡ casePlanned c) × (after ≡ overwritten before (casePlan c))
+    only-plan before room r after h =
+        let e = one-plan (c .order) o accepts p C classes x shares (λ i l. both i l .1) before room r after h in
+        (e .0 ∙ same-planned, e .1 ∙ ap (overwritten before) same-plan)
+
+    -- the sets of the row
+    sets-right : SetsRight c o
+    sets-right = record {
+      are = classes;
+      only = λ p′ C′ c′.
+          let count : p′ ≡ p = count-unique (settingOf o) (fansPresent o) p′ p C′ C c′ classes in
+          (count, λ i l. same-doses (C′ i) (C i) (classes-unique (settingOf o) (fansPresent o) p′ p C′ C c′ classes i l (omega arith)));
+      records = sym (same-records .0);
+    }
 
     -- a point of the row
     point-right : (d : Drawing) → T (pointTest o c d) → DrawingRight c d
@@ -203,10 +243,10 @@ module _ (c : Case) (o : Order) (reads : readOrder (c .order) ≡ read o) where
 
     plan-right : Right c
     plan-right = record {
-      plans = λ before room.
-          plans-as before room (c .answer) (length (c .classes)) (length (c .slots)) (casePlan c) same-done same-count
-          (ap (λ (l : List Slot). length l) (same-records .1)) same-plan;
-      alone = only tests;
+      plans = λ before room. plans-as before room (casePlanned c) (casePlan c) same-planned same-plan;
+      only = only-plan;
+      first = first-of first-one;
+      sets = λ o′ g. rw (← one-order o′ (g .reads)) sets-right;
       judged = rw (← same-done) (Judges.stands o accepts stands);
       points = all-points (c .points) (and-left (allIn (pointTest o c) (c .points)) (sameAnswer done (c .answer)) (parts .2));
     }

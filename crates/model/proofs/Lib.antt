@@ -28,6 +28,7 @@ pub mod Records
 pub mod Plans
 pub mod Planner
 pub mod CaseLaws
+pub mod ForcedShares
 pub mod Cases
 pub mod Windows
 pub mod ValidShares

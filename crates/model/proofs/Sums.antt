@@ -58,16 +58,20 @@ unfolding sum
 sum-pos zero f h = absurd (omega arith)
 sum-pos (suc n) f h = elim (eq-zero-or-pos (f n)) [ inl e ↦ let r = sum-pos n f (omega arith) in (r .0, omega arith, r .2) | inr p ↦ (n, omega arith, p) ]
 
--- terms at most, and one of them less: the sum is less
-pub sum-lt : (n : ℕ) {f g : ℕ → ℕ} → Under n f g → (k : ℕ) → k < n → f k < g k → sum n f < sum n g
+-- terms at most: so are the sums without term k, f's to the left
+pub sum-le-without : (n : ℕ) {f g : ℕ → ℕ} → Under n f g → (k : ℕ) → k < n → sum n f + g k ≤ sum n g + f k
 unfolding sum
-sum-lt zero h k l m = omega arith
-sum-lt (suc n) {f} {g} h k l m =
+sum-le-without zero h k l = absurd (omega arith)
+sum-le-without (suc n) {f} {g} h k l =
     let below : Under n f g = λ i q. h i (omega arith) in
     elim (last l) [
       | inl e ↦ omega (arith, sum-le n below, ap f e, ap g e)
-      | inr q ↦ omega (arith, sum-lt n below k q m, h n (omega arith))
+      | inr q ↦ omega (arith, sum-le-without n below k q, h n (omega arith))
     ]
+
+-- terms at most, and one of them less: the sum is less
+pub sum-lt : (n : ℕ) {f g : ℕ → ℕ} → Under n f g → (k : ℕ) → k < n → f k < g k → sum n f < sum n g
+sum-lt n h k l m = omega (arith, sum-le-without n h k l)
 
 -- terms at most, and the sums are equal: the terms are equal
 pub sum-tight : (n : ℕ) {f g : ℕ → ℕ} → Under n f g → sum n g ≤ sum n f → (k : ℕ) → k < n → f k ≡ g k

@@ -1,7 +1,7 @@
 -- The rows of the table pass a test that is computed; that a row which passes is right is proved (proofs/Cases).
 use mathlib.Core.Bool.{Bool, true, false, not, _&&_, _||_}
 use mathlib.Core.List.{List, [], _∷_}
-use Prim.Native.Nat.{ℕ, zero, suc}
+use Prim.Native.Nat.{ℕ, zero, suc, _-_, min}
 use lib.Dec.{T, eqb, leb}
 use lib.ListN.{length, getD}
 use Rattle.model.specs.Sets.{sum, Doses, weight}
@@ -60,12 +60,7 @@ module _ (S : Setting) where
   unfoldable pub nextTest : Row → Doses → Doses → Bool
   nextTest row rest A = insideTest A rest && someTest A && everySet doses (λ marks. givesWay row rest A (marked marks))
 
-  -- and no other set is
-  unfoldable pub aloneTest : Row → Doses → Doses → Bool
-  aloneTest row rest A =
-      everySet doses (λ marks. not (nextTest row rest (marked marks)) || (insideTest (marked marks) A && insideTest A (marked marks)))
-
-  -- x are valid shares of A: within the rooms, the intervals full, the needs met
+  -- the shares of dose k are within its rooms
   unfoldable pub roomTest : Row → Doses → (ℕ → ℕ → ℕ) → ℕ → Bool
   roomTest row A x k = allBelow intervals (λ j. leb (x k j) (room S row A k j))
 
@@ -77,9 +72,19 @@ module _ (S : Setting) where
   unfoldable pub metTest : Row → Doses → (ℕ → ℕ → ℕ) → ℕ → Bool
   metTest row A x k = not (A k) || eqb (got S row A x k) (need S row A k)
 
-  -- all three
+  -- all three: x are valid shares of A
   unfoldable pub validTest : Row → Doses → (ℕ → ℕ → ℕ) → Bool
   validTest row A x = allBelow doses (roomTest row A x) && allBelow intervals (fullTest row A x) && allBelow doses (metTest row A x)
+
+  -- the most that dose k can have in interval j
+  unfoldable pub most : Row → Doses → ℕ → ℕ → ℕ
+  most row A k j = min (room S row A k j) (holds S row A j)
+
+  -- the shares of dose k are forced: in each interval the most that it can have is no more than the least, its need less the most that
+  -- it can have in all other intervals
+  unfoldable pub forcedTest : Row → Doses → ℕ → Bool
+  forcedTest row A k = allBelow intervals (λ j.
+      leb (min (most row A k j) (need S row A k)) (need S row A k - (sum intervals (most row A k) - most row A k j)))
 
 -- ---- tests of equality
 
@@ -145,15 +150,15 @@ unfoldable pub nothingTest : Case → Bool
 nothingTest c = emptyList (c .classes) && emptyList (c .slots) && emptyList (c .points)
 
 module _ (o : Order) (c : Case) where
-  -- set i of the row is the next class after those before it, and no other is
+  -- set i of the row is the next class after those before it
   unfoldable pub classTest : ℕ → Bool
-  classTest i =
-      nextTest (settingOf o) (free (settingOf o) (fansPresent o) (caseSets c) i) (remaining (caseSets c) i) (caseSets c i)
-      && aloneTest (settingOf o) (free (settingOf o) (fansPresent o) (caseSets c) i) (remaining (caseSets c) i) (caseSets c i)
+  classTest i = nextTest (settingOf o) (free (settingOf o) (fansPresent o) (caseSets c) i) (remaining (caseSets c) i) (caseSets c i)
 
-  -- its shares are valid
+  -- its shares are valid, and forced
   unfoldable pub sharesTest : ℕ → Bool
-  sharesTest i = validTest (settingOf o) (free (settingOf o) (fansPresent o) (caseSets c) i) (caseSets c i) (caseShares c i)
+  sharesTest i =
+      validTest (settingOf o) (free (settingOf o) (fansPresent o) (caseSets c) i) (caseSets c i) (caseShares c i)
+      && allBelow (settingOf o .doses) (forcedTest (settingOf o) (free (settingOf o) (fansPresent o) (caseSets c) i) (caseSets c i))
 
   -- a point of the row is drawn
   unfoldable pub pointTest : Drawing → Bool
@@ -162,8 +167,7 @@ module _ (o : Order) (c : Case) where
 
   -- refused 9
   unfoldable pub fastTest : Bool
-  fastTest =
-      eqb (length (c .sets)) 1 && classTest 0 && (aboveTop o (caseSets c 0) && sameAnswer (tooFast o (caseSets c 0)) (c .answer) && nothingTest c)
+  fastTest = classTest 0 && (aboveTop o (caseSets c 0) && sameAnswer (tooFast o (caseSets c 0)) (c .answer) && nothingTest c)
 
   -- no dose is left
   unfoldable pub doneTest : ℕ → Bool
@@ -196,5 +200,5 @@ caseTest c = readingTest c (readOrder (c .order))
 
 -- every row passes
 pub cases-pass : T (allIn caseTest cases)
-unfolding allBelow allIn everySet insideTest someTest givesWay nextTest aloneTest roomTest fullTest metTest validTest sameList sameClass sameSlot sameState samePoint sameAnswer emptyList nothingTest classTest sharesTest pointTest fastTest doneTest slowTest recordsTest planTest readingTest caseTest sum weight numberAt numberBytes fieldsAt blankAt recordBytes readFrom entryOf fansIn dosesIn clashesAny noClash orderOf readOrder openFans P free remaining insert instants gather total cut line pieceSlot laneSlots intervalSlots tableSlots unitsBefore timeOf drawn fedAt stateAt listed
+unfolding allBelow allIn everySet insideTest someTest givesWay nextTest roomTest fullTest metTest validTest most forcedTest sameList sameClass sameSlot sameState samePoint sameAnswer emptyList nothingTest classTest sharesTest pointTest fastTest doneTest slowTest recordsTest planTest readingTest caseTest sum weight numberAt numberBytes fieldsAt blankAt recordBytes readFrom entryOf fansIn dosesIn clashesAny noClash orderOf readOrder openFans P free remaining insert instants gather total cut line pieceSlot laneSlots intervalSlots tableSlots unitsBefore timeOf drawn fedAt stateAt listed
 cases-pass = tt

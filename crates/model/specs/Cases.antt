@@ -9,11 +9,12 @@ use Rattle.model.specs.Sets.{Doses, Sub}
 use Rattle.model.specs.Lists.{All}
 use Rattle.model.specs.Records.{fansParts, doseParts, recordBytes, read}
 use Rattle.model.specs.Orders.{Order, readOrder}
-use Rattle.model.specs.Classes.{free, remaining, NextClass}
+use Rattle.model.specs.Classes.{Classes}
 use Rattle.model.specs.Intervals.{settingOf, fansPresent}
 use Rattle.model.specs.Plans.{Class, Slot, planOf, recordsBytes}
+use Rattle.model.specs.Layout.{classesOf}
 use Rattle.model.specs.Line.{State, finished, shut, idle, dosing, Point}
-use Rattle.model.specs.Answers.{Answer, refusal, done, planRoom, overwritten, Plans, Judges, Draws, Moves}
+use Rattle.model.specs.Answers.{Answer, refusal, done, FirstClass, Accepts, Planned, planRoom, overwritten, Plans, Judges, Draws, Moves}
 
 -- a dose's point at a tick
 pub record Drawing : Type 0 where
@@ -51,14 +52,33 @@ pub record DrawingRight (c : Case) (d : Drawing) : Type 0 where
   pub moves : (t : ℕ) → d .tick ≡ t + 1 → Moves (c .order) (casePlan c) (record { dose = d .dose; tick = t })
       (record { answer = done; point = d .point }) (record { dose = d .dose; tick = d .tick })
 
--- the claim: planning into any buffer that is large enough gives the row's answer, classes and slots; no other sets are the
--- classes; the plan is judged and drawn as the row says
+-- what planning a row answers
+abbrev pub casePlanned : Case → Planned
+casePlanned c = record { answer = c .answer; classes = length (c .classes); slots = length (c .slots) }
+
+-- two sets have the same doses of an order
+abbrev pub SameDoses : Order → Doses → Doses → Type 0
+SameDoses o A B = Sub (settingOf o .doses) A B × Sub (settingOf o .doses) B A
+
+-- the sets of a row are the classes of its order, no others are, and "the C records are exactly the order's classes"
+pub record SetsRight (c : Case) (o : Order) : Type 0 where
+  pub are : Classes (settingOf o) (fansPresent o) (length (c .sets)) (caseSets c)
+  pub only : (p : ℕ) (C : ℕ → Doses) → Classes (settingOf o) (fansPresent o) p C
+      → (p ≡ length (c .sets)) × ((i : ℕ) → i < p → SameDoses o (C i) (caseSets c i))
+  pub records : c .classes ≡ classesOf o (length (c .sets)) (caseSets c)
+
+-- the claim about a row
 pub record Right (c : Case) : Type 0 where
-  pub plans : (before : List ℕ) → planRoom ≤ length before
-      → Plans (c .order) before (record { answer = c .answer; classes = length (c .classes); slots = length (c .slots) }) (overwritten before (casePlan c))
-  pub alone : (o : Order) → readOrder (c .order) ≡ read o → (i : ℕ) → i < length (c .sets) → (A : Doses)
-      → NextClass (settingOf o) (free (settingOf o) (fansPresent o) (caseSets c) i) (remaining (caseSets c) i) A
-      → Sub (settingOf o .doses) A (caseSets c i) × Sub (settingOf o .doses) (caseSets c i) A
+  -- planning into any buffer that is large enough gives the row's answer, counts and plan
+  pub plans : (before : List ℕ) → planRoom ≤ length before → Plans (c .order) before (casePlanned c) (overwritten before (casePlan c))
+  -- and nothing else: a refused row has no other refusal, and a planned one no other slots, since its shares are forced
+  pub only : (before : List ℕ) → planRoom ≤ length before → (r : Planned) (after : List ℕ) → Plans (c .order) before r after
+      → (r ≡ casePlanned c) × (after ≡ overwritten before (casePlan c))
+  -- a first class, as refusal 9 names it, has the doses of the row's first set
+  pub first : (o : Order) → readOrder (c .order) ≡ read o → (A : Doses) → FirstClass o A → SameDoses o A (caseSets c 0)
+  -- the classes of a row that is planned
+  pub sets : (o : Order) → Accepts (c .order) o → SetsRight c o
+  -- the row's plan is judged and drawn as the row says
   pub judged : Judges (c .order) (casePlan c) (c .answer)
   pub points : All (DrawingRight c) (c .points)
 
