@@ -13,7 +13,7 @@ use Rattle.model.specs.Orders.{Order}
 use Rattle.model.specs.Classes.{Classes, P, Row, Setting, W, classP, free, openFans}
 use Rattle.model.specs.Intervals.{fansPresent, instantAt, settingOf}
 use Rattle.model.specs.Records.{read}
-use Rattle.model.specs.Plans.{Slot, planOf, planRecords, slotsRead}
+use Rattle.model.specs.Plans.{Slot, planOf, planRecords, recordsBytes, slotsRead}
 use Rattle.model.specs.Layout.{classAt, classesOf, slotsOf}
 use Rattle.model.specs.Stands.{Named, SlotsStand, Stands, ends}
 use Rattle.model.specs.Answers.{ValidShares, planBytes, planRoom}
@@ -99,31 +99,32 @@ module _ (o : Order) (fit : Fit o) (p : ℕ) (C : ℕ → Doses) where
     time = omega (arith, time-most i);
   }
 
-  module _ (c : Classes S (fansPresent o) p C) (x : ℕ → ℕ → ℕ → ℕ) (v : ValidShares o p C x) where
+  module _ (c : Classes S (fansPresent o) p C) where
     few : p ≤ S .doses
     few = few-classes S (fansPresent o) p C c
 
-    -- the planner's bytes say its classes and slots
-    pub plan-reads : planRecords (planBytes o p C x) ≡ read (planOf (classesOf o p C) (slotsOf o p C x))
-    plan-reads =
-        plan-back (classesOf o p C) (slotsOf o p C x) (All-gather p _ (λ i l. also (narrow-class i (omega (arith, few))) none))
-        (All-imp (narrow-slot few) (laid-stand o fit p C c x v .named))
+    -- slots that stand, written behind the C records: the bytes say the classes and slots, and stand
+    module _ (slots : List Slot) (h : SlotsStand o p C slots) where
+      pub written-reads : planRecords (recordsBytes (planOf (classesOf o p C) slots)) ≡ read (planOf (classesOf o p C) slots)
+      written-reads =
+          plan-back (classesOf o p C) slots (All-gather p _ (λ i l. also (narrow-class i (omega (arith, few))) none)) (All-imp (narrow-slot few) (h .named))
 
-    -- the planner's plan stands
-    pub plan-stands : Stands o (planBytes o p C x)
-    plan-stands = record {
-      count = p;
-      sets = C;
-      classes = c;
-      slots = slotsOf o p C x;
-      records = plan-reads;
-      stand = laid-stand o fit p C c x v;
-    }
+      pub written-stands : Stands o (recordsBytes (planOf (classesOf o p C) slots))
+      written-stands = record { count = p; sets = C; classes = c; slots = slots; records = written-reads; stand = h }
 
-    -- it has a record for each class and each slot
-    pub plan-length : length (planBytes o p C x) ≡ 32 * (p + length (slotsOf o p C x))
-    plan-length = omega (arith, length-plan (classesOf o p C) (slotsOf o p C x), length-singles p (classAt o p C))
+    module _ (x : ℕ → ℕ → ℕ → ℕ) (v : ValidShares o p C x) where
+      -- the planner's bytes say its classes and slots
+      pub plan-reads : planRecords (planBytes o p C x) ≡ read (planOf (classesOf o p C) (slotsOf o p C x))
+      plan-reads = written-reads (slotsOf o p C x) (laid-stand o fit p C c x v)
 
-    -- and goes into the plan buffer
-    pub plan-room : length (planBytes o p C x) ≤ planRoom
-    plan-room = omega (arith, plan-length, few, fit .few, few-slots o fit p C c x v)
+      -- the planner's plan stands
+      pub plan-stands : Stands o (planBytes o p C x)
+      plan-stands = written-stands (slotsOf o p C x) (laid-stand o fit p C c x v)
+
+      -- it has a record for each class and each slot
+      pub plan-length : length (planBytes o p C x) ≡ 32 * (p + length (slotsOf o p C x))
+      plan-length = omega (arith, length-plan (classesOf o p C) (slotsOf o p C x), length-singles p (classAt o p C))
+
+      -- and goes into the plan buffer
+      pub plan-room : length (planBytes o p C x) ≤ planRoom
+      plan-room = omega (arith, plan-length, few, fit .few, few-slots o fit p C c x v)

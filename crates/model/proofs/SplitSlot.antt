@@ -1,24 +1,35 @@
--- A plan that stands and is not the planner's: P1's, with the slot of dose 0 cut in two at second 5. It is drawn as the planner's is,
--- while rounding slot by slot would lose a gram of it.
-use mathlib.Core.Path.{_≡_, refl}
+-- A plan that stands and is not the planner's: P1's, with the slot of dose 0 cut in two at second 5. Its bytes stand, and planning P1 never
+-- leaves them. It is drawn as the planner's is, while rounding slot by slot would lose a gram of it.
+use mathlib.Core.Path.{_≡_, refl, sym, ap, subst}
 use mathlib.Core.Logic.{inl}
 use mathlib.Core.List.{List, [], _∷_}
 use Prim.Native.Nat.{ℕ, zero, suc, _*_, _≤_, _<_}
 use native.Mathlib.Omega.{arith}
 use lib.Dec.{T}
+use lib.ListN.{length, getD}
 use Rattle.model.specs.Sets.{Doses, sum, weight}
-use Rattle.model.specs.Lists.{total, none, also, Pairs, lone, then}
-use Rattle.model.specs.Orders.{Order, doseAt}
+use Rattle.model.specs.Lists.{total, All, none, also, Pairs, lone, then}
+use Rattle.model.specs.Records.{read, numberAt, numberBytes, fieldsAt, blankAt, recordBytes, readFrom}
+use Rattle.model.specs.Orders.{Order, doseAt, entryOf, fansIn, dosesIn, clashesAny, noClash, orderOf, readOrder}
 use Rattle.model.specs.Classes.{P, openFans, free, classP}
 use Rattle.model.specs.Intervals.{insert, instants, settingOf, fansPresent}
-use Rattle.model.specs.Plans.{Slot}
-use Rattle.model.specs.Stands.{Named, InInterval, InOrder, by-interval, by-start, EndsBy, SlotsStand, unitsOf}
+use Rattle.model.specs.Plans.{Class, Slot, planOf, planRecordBytes, recordsBytes}
+use Rattle.model.specs.Stands.{Named, InInterval, InOrder, by-interval, by-start, EndsBy, SlotsStand, Stands, unitsOf}
 use Rattle.model.specs.Line.{unitsBefore, timeOf, drawn}
-use Rattle.model.specs.Cases.{listed, oneFan, caseSets, slot}
+use Rattle.model.specs.Answers.{Answer, done, Accepts, Planned, Plans, planRoom, overwritten, Judges}
+use Rattle.model.specs.Cases.{Case, Right, listed, oneFan, caseSets, casePlan, slot}
 use Rattle.model.proofs.Lists.{Pairs-imp}
+use Rattle.model.proofs.Orders.{read-fits}
+use Rattle.model.proofs.Planner.{written-stands}
+use Rattle.model.proofs.Answers.{refuses-number}
+use Rattle.model.proofs.Cases.{cases-right}
 
--- P1's order
-abbrev o : Order
+-- P1's row
+abbrev pub P1 : Case
+P1 = oneFan 1000 1
+
+-- its order
+abbrev pub o : Order
 o = record {
   fans = 1;
   topGrams = 1000;
@@ -27,7 +38,7 @@ o = record {
 }
 
 abbrev C : ℕ → Doses
-C = caseSets (oneFan 1000 1)
+C = caseSets P1
 
 abbrev before : Slot
 before = slot 1 1 0 0 4 0 16 4 1
@@ -127,12 +138,59 @@ totals (suc zero) (suc zero) l h t = absurd t
 totals (suc zero) (suc (suc d)) l h t = absurd (omega arith)
 totals (suc (suc i)) d l h t = absurd (omega arith)
 
+-- ---- the plan's bytes
+
 -- the slots stand
-pub split-stands : SlotsStand o 2 C split
-split-stands = record {
+slots-stand : SlotsStand o 2 C split
+slots-stand = record {
   named = also of-dose-1 (also (of-dose-0 4 5 (omega arith) (omega arith) (omega arith)) (also (of-dose-0 5 10 (omega arith) (omega arith) (omega arith)) none));
   order = in-turn;
   fans-apart = Pairs-imp (λ s u h e. inl h) apart;
   doses-apart = Pairs-imp (λ s u h e. inl h) apart;
   totals = totals;
 }
+
+-- P1's classes, and the slots
+abbrev pub splitPlan : List ℕ
+splitPlan = recordsBytes (planOf (P1 .classes) split)
+
+-- the row of P1 is right
+right : Right P1
+right = head cases-right
+  where
+    head : {P : Case → Type 0} {c : Case} {l : List Case} → All P (c ∷ l) → P c
+    head (also p h) = p
+
+-- P1's bytes read as the order, which is accepted
+pub reads : readOrder (P1 .order) ≡ read o
+unfolding readOrder orderOf readFrom entryOf fieldsAt blankAt numberAt numberBytes recordBytes fansIn dosesIn clashesAny noClash
+reads = refl
+
+accepts : Accepts (P1 .order) o
+accepts = go (right .judged) refl
+  where
+    go : {a : Answer} → Judges (P1 .order) (casePlan P1) a → a .number ≡ 0 → Accepts (P1 .order) o
+    go (Judges.refuses a r) e = absurd (refuses-number r e)
+    go (Judges.falls o′ g h) e = absurd (omega arith)
+    go (Judges.stands o′ g h) e =
+        let f = g .reads in
+        let same : o′ ≡ o = cc reads in
+        subst (λ (o : Order). Accepts (P1 .order) o) same g
+
+-- the bytes stand
+pub split-stands : Stands o splitPlan
+split-stands =
+    let s = right .sets o accepts in
+    subst (λ (l : List Class). Stands o (recordsBytes (planOf l split))) (sym (s .records))
+    (written-stands o (read-fits (P1 .order) o reads) 2 C (s .are) split slots-stand)
+
+-- and are judged so
+pub split-judged : Judges (P1 .order) splitPlan done
+split-judged = Judges.stands o accepts split-stands
+
+-- but planning P1 never leaves them: byte 108 is the end tick of the second slot, 5 here and 10 in the only plan
+pub split-never-planned : (before : List ℕ) → planRoom ≤ length before → (r : Planned) → Plans (P1 .order) before r (overwritten before splitPlan) → ⊥
+unfolding recordsBytes planRecordBytes recordBytes numberBytes
+split-never-planned before room r h =
+    let end : _≡_ {A = ℕ} 5 10 = ap (λ (b : List ℕ). getD b 108 0) (right .only before room r (overwritten before splitPlan) h .1) in
+    omega arith
