@@ -3,7 +3,7 @@ use mathlib.Core.Path.{_≡_, refl, sym, ap, ap₂, subst, fun-ext, _∙_}
 use mathlib.Core.Bool.{Bool, true, false, _&&_}
 use mathlib.Core.Logic.{_≢_}
 use mathlib.Core.List.{List, [], _∷_, _++_, map, append-assoc}
-use Prim.Native.Nat.{ℕ, zero, suc, _+_, _*_, _/_, _%_, _<_, _^_}
+use Prim.Native.Nat.{ℕ, zero, suc, _+_, _*_, _/_, _%_, _≤_, _<_, _^_}
 use native.Mathlib.Omega.{arith}
 use lib.Dec.{T, eqb, leb}
 use lib.ListN.{length, getD, drop}
@@ -28,10 +28,10 @@ use Rattle.model.proofs.Orders.{no-refusal}
 
 -- ---- a refusal by reading has a number from 2 to 8
 
--- an answer that refuses, if it does, with a number that is not 0
+-- an answer that refuses, if it does, with such a number
 abbrev Numbered : {A : Type 0} → Reading A → Type 0
 Numbered (read a) = Unit {0}
-Numbered (refused number place) = number ≢ 0
+Numbered (refused number place) = (2 ≤ number) × (number ≤ 8)
 
 pick-numbered : {A : Type 0} (b : Bool) (x y : Reading A) → Numbered x → Numbered y → Numbered (pick b x y)
 pick-numbered true x y p q = p
@@ -53,17 +53,17 @@ entry-numbered : (r : List ℕ) (i : ℕ) → Numbered (entryOf r i)
 unfolding entryOf
 entry-numbered r i =
     pick-numbered (eqb (getD r 0 0) 0x46) _ _ (kind (blankAt fansParts r 0) (fansFit (fansOf r)) (fansEntry (fansOf r)))
-    (pick-numbered (eqb (getD r 0 0) 0x44) _ _ (kind (blankAt doseParts r 0) (doseFits (doseOf r)) (doseEntry (doseOf r))) (omega arith))
+    (pick-numbered (eqb (getD r 0 0) 0x44) _ _ (kind (blankAt doseParts r 0) (doseFits (doseOf r)) (doseEntry (doseOf r))) (omega arith, omega arith))
   where
     kind : (blank fits : Bool) (e : Entry) → Numbered (checked blank fits e i)
-    kind blank fits e = pick-numbered blank _ _ (pick-numbered fits _ _ tt (omega arith)) (omega arith)
+    kind blank fits e = pick-numbered blank _ _ (pick-numbered fits _ _ tt (omega arith, omega arith)) (omega arith, omega arith)
 
 clash-numbered : (earlier : List Dose) (i : ℕ) (es : List Entry) → Numbered (noClash earlier i es)
 unfolding noClash
 clash-numbered earlier i [] = tt
 clash-numbered earlier i (fansEntry f ∷ es) = clash-numbered earlier (suc i) es
 clash-numbered earlier i (doseEntry d ∷ es) =
-    pick-numbered (clashesAny d earlier) (refused 8 i) _ (omega arith) (clash-numbered (earlier ++ d ∷ []) (suc i) es)
+    pick-numbered (clashesAny d earlier) (refused 8 i) _ (omega arith, omega arith) (clash-numbered (earlier ++ d ∷ []) (suc i) es)
 
 order-numbered : (bytes : List ℕ) → Numbered (readOrder bytes)
 unfolding readOrder orderOf
@@ -71,11 +71,11 @@ order-numbered bytes =
     pick-numbered (eqb (length bytes % 32) 0 && leb (length bytes) 1600) _ _
     (then-numbered (readAll entryOf bytes) orderOf (all-numbered entryOf entry-numbered bytes 0 (length bytes / 32)) (λ es.
     pick-numbered (eqb (length (fansIn es)) 1) _ _
-    (pick-numbered (leb (length (dosesIn es)) 24) _ _ (then-numbered (noClash [] 0 es) _ (clash-numbered [] 0 es) (λ ds. tt)) (omega arith))
-    (omega arith))) (omega arith)
+    (pick-numbered (leb (length (dosesIn es)) 24) _ _ (then-numbered (noClash [] 0 es) _ (clash-numbered [] 0 es) (λ ds. tt)) (omega arith, omega arith))
+    (omega arith, omega arith))) (omega arith, omega arith)
 
--- a refusal by reading is not numbered 0
-pub unread-number : (order : List ℕ) (number place : ℕ) → readOrder order ≡ refused number place → number ≢ 0
+-- a refusal by reading is numbered 2 to 8
+pub unread-number : (order : List ℕ) (number place : ℕ) → readOrder order ≡ refused number place → (2 ≤ number) × (number ≤ 8)
 unread-number order number place e = subst (λ (r : Reading Order). Numbered r) e (order-numbered order)
 
 -- ---- the order's answer
@@ -103,10 +103,10 @@ refuses-one {order} (above o A f c t) (above o′ A′ f′ c′ t′) =
     let same : o′ ≡ o = cc in
     first-one o A A′ c (subst (λ (o : Order). FirstClass o A′) same c′) ∙ ap (λ (o : Order). tooFast o A′) (sym same)
 
--- never with 0
-pub refuses-number : {order : List ℕ} {a : Answer} → Refuses order a → a .number ≢ 0
-refuses-number {order} (unread number place e) = unread-number order number place e
-refuses-number (above o A f c t) = omega arith
+-- with a number from 2 to 9
+pub refuses-number : {order : List ℕ} {a : Answer} → Refuses order a → (2 ≤ a .number) × (a .number ≤ 9)
+refuses-number {order} (unread number place e) = let n = unread-number order number place e in (n .0, omega (arith, n))
+refuses-number (above o A f c t) = (omega arith, omega arith)
 
 -- and no order is refused and accepted
 pub refused-not-accepted : {order : List ℕ} {a : Answer} {o : Order} → Refuses order a → Accepts order o → ⊥

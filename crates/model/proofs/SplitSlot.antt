@@ -170,7 +170,7 @@ accepts : Accepts (P1 .order) o
 accepts = go (right .judged) refl
   where
     go : {a : Answer} → Judges (P1 .order) (casePlan P1) a → a .number ≡ 0 → Accepts (P1 .order) o
-    go (Judges.refuses a r) e = absurd (refuses-number r e)
+    go (Judges.refuses a r) e = absurd (omega (arith, refuses-number r))
     go (Judges.falls o′ g h) e = absurd (omega arith)
     go (Judges.stands o′ g h) e =
         let f = g .reads in
