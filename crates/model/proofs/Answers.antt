@@ -1,15 +1,15 @@
 -- Answers are settled: refusals of an order, verdicts, points and pens are unique, and two plannings agree on all but the shares' choice.
 use mathlib.Core.Path.{_≡_, refl, sym, ap, ap₂, subst, fun-ext, _∙_}
-use mathlib.Core.Bool.{Bool, true, false, _&&_}
+use mathlib.Core.Bool.{true}
 use mathlib.Core.Logic.{_≢_}
 use mathlib.Core.List.{List, [], _∷_, _++_, map, append-assoc}
-use Prim.Native.Nat.{ℕ, zero, suc, _+_, _*_, _/_, _%_, _≤_, _<_, _^_}
+use Prim.Native.Nat.{ℕ, zero, suc, _+_, _*_, _≤_, _<_, _^_}
 use native.Mathlib.Omega.{arith}
-use lib.Dec.{T, eqb, leb}
-use lib.ListN.{length, getD, drop}
+use lib.Dec.{T}
+use lib.ListN.{length, drop}
 use Rattle.model.specs.Sets.{Doses}
-use Rattle.model.specs.Records.{Reading, read, refused, pick, andThen, readFrom, readAll, recordAt, fansParts, doseParts, blankAt}
-use Rattle.model.specs.Orders.{Order, Dose, Entry, fansEntry, doseEntry, fansOf, doseOf, fansFit, doseFits, checked, entryOf, fansIn, dosesIn, clashesAny, noClash, orderOf, readOrder}
+use Rattle.model.specs.Records.{refused}
+use Rattle.model.specs.Orders.{Order, readOrder}
 use Rattle.model.specs.Lists.{gather}
 use Rattle.model.specs.Classes.{Setting, Row, P, Classes, free, reserved, classP}
 use Rattle.model.specs.Plans.{Class, Slot, classRecord, slotRecord, planOf, recordsBytes}
@@ -25,60 +25,13 @@ use Rattle.model.proofs.Plans.{records-append}
 use Rattle.model.proofs.NextClass.{next-unique}
 use Rattle.model.proofs.Sequence.{count-unique, classes-unique, free-alike}
 use Rattle.model.proofs.Orders.{no-refusal}
+use Rattle.model.proofs.Given.{given-exactly, row-number}
 
--- ---- a refusal by reading has a number from 2 to 8
-
--- an answer that refuses, if it does, with such a number
-abbrev Numbered : {A : Type 0} → Reading A → Type 0
-Numbered (read a) = Unit {0}
-Numbered (refused number place) = (2 ≤ number) × (number ≤ 8)
-
-pick-numbered : {A : Type 0} (b : Bool) (x y : Reading A) → Numbered x → Numbered y → Numbered (pick b x y)
-pick-numbered true x y p q = p
-pick-numbered false x y p q = q
-
-then-numbered : {A B : Type 0} (x : Reading A) (f : A → Reading B) → Numbered x → ((a : A) → Numbered (f a)) → Numbered (andThen x f)
-then-numbered (read a) f p q = q a
-then-numbered (refused number place) f p q = p
-
-all-numbered : {A : Type 0} (each : List ℕ → ℕ → Reading A) → ((r : List ℕ) (i : ℕ) → Numbered (each r i)) → (bytes : List ℕ) (i n : ℕ)
-    → Numbered (readFrom each bytes i n)
-unfolding readFrom
-all-numbered each h bytes i zero = tt
-all-numbered each h bytes i (suc n) =
-    let ih = all-numbered each h bytes (suc i) n in
-    then-numbered (each (recordAt bytes i) i) _ (h (recordAt bytes i) i) (λ a. then-numbered (readFrom each bytes (suc i) n) _ ih (λ l. tt))
-
-entry-numbered : (r : List ℕ) (i : ℕ) → Numbered (entryOf r i)
-unfolding entryOf
-entry-numbered r i =
-    pick-numbered (eqb (getD r 0 0) 0x46) _ _ (kind (blankAt fansParts r 0) (fansFit (fansOf r)) (fansEntry (fansOf r)))
-    (pick-numbered (eqb (getD r 0 0) 0x44) _ _ (kind (blankAt doseParts r 0) (doseFits (doseOf r)) (doseEntry (doseOf r))) (omega arith, omega arith))
-  where
-    kind : (blank fits : Bool) (e : Entry) → Numbered (checked blank fits e i)
-    kind blank fits e = pick-numbered blank _ _ (pick-numbered fits _ _ tt (omega arith, omega arith)) (omega arith, omega arith)
-
-clash-numbered : (earlier : List Dose) (i : ℕ) (es : List Entry) → Numbered (noClash earlier i es)
-unfolding noClash
-clash-numbered earlier i [] = tt
-clash-numbered earlier i (fansEntry f ∷ es) = clash-numbered earlier (suc i) es
-clash-numbered earlier i (doseEntry d ∷ es) =
-    pick-numbered (clashesAny d earlier) (refused 8 i) _ (omega arith, omega arith) (clash-numbered (earlier ++ d ∷ []) (suc i) es)
-
-order-numbered : (bytes : List ℕ) → Numbered (readOrder bytes)
-unfolding readOrder orderOf
-order-numbered bytes =
-    pick-numbered (eqb (length bytes % 32) 0 && leb (length bytes) 1600) _ _
-    (then-numbered (readAll entryOf bytes) orderOf (all-numbered entryOf entry-numbered bytes 0 (length bytes / 32)) (λ es.
-    pick-numbered (eqb (length (fansIn es)) 1) _ _
-    (pick-numbered (leb (length (dosesIn es)) 24) _ _ (then-numbered (noClash [] 0 es) _ (clash-numbered [] 0 es) (λ ds. tt)) (omega arith, omega arith))
-    (omega arith, omega arith))) (omega arith, omega arith)
+-- ---- the order's answer
 
 -- a refusal by reading is numbered 2 to 8
 pub unread-number : (order : List ℕ) (number place : ℕ) → readOrder order ≡ refused number place → (2 ≤ number) × (number ≤ 8)
-unread-number order number place e = subst (λ (r : Reading Order). Numbered r) e (order-numbered order)
-
--- ---- the order's answer
+unread-number order number place e = row-number (given-exactly order number place .0 e)
 
 -- an order has one reading
 pub one-order : {order : List ℕ} {o o′ : Order} → Accepts order o → Accepts order o′ → o ≡ o′

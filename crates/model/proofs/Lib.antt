@@ -19,6 +19,8 @@ pub mod FreeBound
 pub mod OwnPlan
 pub mod Refusal
 pub mod Orders
+pub mod Readings
+pub mod Given
 pub mod Intervals
 pub mod Lists
 pub mod Wrap

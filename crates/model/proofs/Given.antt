@@ -1,0 +1,360 @@
+-- Refusals 2 to 8 as the table of "What comes back" has them, "given exactly when": a row for each, with its place, and what comes before it passed.
+use mathlib.Core.Bool.{Bool, true, false, not, _&&_, _||_}
+use mathlib.Core.Logic.{_↔_, _≢_, _⊎_, inl, inr}
+use mathlib.Core.Path.{_≡_, refl, sym, ap, _∙_}
+use mathlib.Core.List.{List, [], _∷_, _++_, append-assoc, append-nil}
+use Prim.Native.Nat.{ℕ, zero, suc, _+_, _/_, _%_, _≤_, _<_}
+use native.Mathlib.Nat.{eq-or-lt-of-le, zero-add}
+use native.Mathlib.Omega.{arith}
+use borrow.Author.Tests.{eq-eqb, eqb-false, le-leb, lt-leb, ne-eqb}
+use lib.Dec.{T, T-not, eqb, eqb-refl, eqb→eq, leb, leb→le, nleb→lt}
+use lib.Ieee.Bits.{is-false, is-true}
+use lib.ListN.{length, getD, length-append, List·getD-append}
+use lib.Seq.{getD-append-seam}
+use Rattle.model.specs.Records.{pick, Reading, read, refused, andThen, fansParts, doseParts, blankAt, recordAt, readAll}
+use Rattle.model.specs.Orders.{Dose, noDose, Entry, fansEntry, doseEntry, fansOf, doseOf, fansFit, doseFits, checked, entryOf, fansIn, dosesIn, apart, clash, clashesAny, noClash, orderOf, readOrder}
+use Rattle.model.proofs.Sums.{last}
+use Rattle.model.proofs.Fractions.{compare≤}
+use Rattle.model.proofs.Readings.{First, Listed, Says, refusal-says, says-pick, says-then, walk-read, walk-refused, walk-says}
+use Rattle.model.proofs.Sets.{and-left, and-right, or-elim, or-left, or-right}
+
+-- ---- the rows of one record, r its bytes; byte 0 is its kind
+
+-- 3 "kind in an order neither F nor D"
+pub record OtherKind (r : List ℕ) : Type 0 where
+  pub not-fans : getD r 0 0 ≢ 0x46
+  pub not-dose : getD r 0 0 ≢ 0x44
+
+-- 4 "a byte that must be zero isn't"
+pub data NotBlank (r : List ℕ) : Type 0 where
+  in-fans : getD r 0 0 ≡ 0x46 → T (not (blankAt fansParts r 0)) → NotBlank r
+  in-dose : getD r 0 0 ≡ 0x44 → T (not (blankAt doseParts r 0)) → NotBlank r
+
+-- 5 "a field out of range", where all bytes that must be zero are
+pub data OutOfRange (r : List ℕ) : Type 0 where
+  in-fans : getD r 0 0 ≡ 0x46 → T (blankAt fansParts r 0) → T (not (fansFit (fansOf r))) → OutOfRange r
+  in-dose : getD r 0 0 ≡ 0x44 → T (blankAt doseParts r 0) → T (not (doseFits (doseOf r))) → OutOfRange r
+
+-- "3, 4, 5 in that order"
+pub data RecordRow (r : List ℕ) : ℕ → Type 0 where
+  kind : OtherKind r → RecordRow r 3
+  blank : NotBlank r → RecordRow r 4
+  range : OutOfRange r → RecordRow r 5
+
+-- ---- the rows of an order
+
+-- 2 is passed
+pub record Sized (order : List ℕ) : Type 0 where
+  pub whole : length order % 32 ≡ 0
+  pub short : length order ≤ 1600
+
+-- record i is there, and all before it are read: "record by record"
+pub record Reached (order : List ℕ) (i : ℕ) : Type 0 where
+  pub sized : Sized order
+  pub there : i < length order / 32
+  pub earlier : (k : ℕ) → k < i → (e : Entry) × (entryOf (recordAt order k) k ≡ read e)
+
+-- what stands for a record past the last
+abbrev pub noEntry : Entry
+noEntry = doseEntry noDose
+
+-- all records are read: record k says what entry k is
+pub record Entries (order : List ℕ) (es : List Entry) : Type 0 where
+  pub sized : Sized order
+  pub count : length es ≡ length order / 32
+  pub each : (k : ℕ) → k < length es → entryOf (recordAt order k) k ≡ read (getD es k noEntry)
+
+-- "two doses of one bay with overlapping windows (touching is allowed)"
+pub record Overlap (x y : Dose) : Type 0 where
+  pub bay : x .bay ≡ y .bay
+  pub opens : x .release < y .deadline
+  pub closes : y .release < x .deadline
+
+-- record i is a "D that overlaps an earlier one"
+pub record OverlapsEarlier (es : List Entry) (i : ℕ) : Type 0 where
+  pub there : i < length es
+  pub dose : Dose
+  pub is : getD es i noEntry ≡ doseEntry dose
+  pub earlier : ℕ
+  pub before : earlier < i
+  pub other : Dose
+  pub was : getD es earlier noEntry ≡ doseEntry other
+  pub overlap : Overlap dose other
+
+-- the table: number and place
+pub data Given (order : List ℕ) : ℕ → ℕ → Type 0 where
+  -- 2 "order length no multiple of 32, or over 1,600"
+  wrong-length : (length order % 32 ≢ 0) ⊎ (1600 < length order) → Given order 2 0
+  -- 3, 4, 5: "Place is the record's index"
+  wrong-record : (number i : ℕ) → Reached order i → RecordRow (recordAt order i) number → Given order number i
+  -- 6 "F records not exactly one"
+  not-one-fans : (es : List Entry) → Entries order es → length (fansIn es) ≢ 1 → Given order 6 0
+  -- 7 "more than 24 doses"
+  many-doses : (es : List Entry) → Entries order es → length (fansIn es) ≡ 1 → 24 < length (dosesIn es) → Given order 7 0
+  -- 8: place is "the record index of the first D that overlaps an earlier one"
+  overlapping : (es : List Entry) → Entries order es → length (fansIn es) ≡ 1 → length (dosesIn es) ≤ 24
+      → (i : ℕ) → OverlapsEarlier es i → ((k : ℕ) → k < i → OverlapsEarlier es k → ⊥) → Given order 8 i
+
+-- ---- one record
+
+module _ (r : List ℕ) (i : ℕ) where
+  abbrev AtRecord : ℕ → ℕ → Type 0
+  AtRecord number place = RecordRow r number × (place ≡ i)
+
+  entry-says : Says (entryOf r i) (λ e. Unit {0}) AtRecord
+  unfolding entryOf
+  entry-says =
+      let fans = eqb (getD r 0 0) 0x46 in
+      let dose = eqb (getD r 0 0) 0x44 in
+      says-pick _ AtRecord fans _ _
+      (λ f. kept (blankAt fansParts r 0) (fansFit (fansOf r)) _ (λ u. NotBlank.in-fans (eqb→eq _ _ f) u) (λ b u. OutOfRange.in-fans (eqb→eq _ _ f) b u))
+      (λ nf. says-pick _ AtRecord dose _ _
+      (λ d. kept (blankAt doseParts r 0) (doseFits (doseOf r)) _ (λ u. NotBlank.in-dose (eqb→eq _ _ d) u) (λ b u. OutOfRange.in-dose (eqb→eq _ _ d) b u))
+      (λ nd. (kind (record { not-fans = λ e. T-not fans nf (test 0x46 e); not-dose = λ e. T-not dose nd (test 0x44 e) }), refl)))
+    where
+      test : (n : ℕ) → getD r 0 0 ≡ n → T (eqb (getD r 0 0) n)
+      test n e = rw e (eqb-refl n)
+
+      kept : (clear fits : Bool) (e : Entry) → (T (not clear) → NotBlank r) → (T clear → T (not fits) → OutOfRange r)
+          → Says (checked clear fits e i) (λ e. Unit {0}) AtRecord
+      kept true true e f g = tt
+      kept true false e f g = (range (g tt tt), refl)
+      kept false fits e f g = (blank (f tt), refl)
+
+  -- a row gives its number
+  row-refuses : (number : ℕ) → RecordRow r number → entryOf r i ≡ refused number i
+  unfolding entryOf
+  row-refuses number (kind k) = rw (ne-eqb (getD r 0 0) 0x46 (k .not-fans), ne-eqb (getD r 0 0) 0x44 (k .not-dose))
+  row-refuses number (blank (NotBlank.in-fans e u)) = rw (eq-eqb (getD r 0 0) 0x46 e, is-false (blankAt fansParts r 0) u)
+  row-refuses number (blank (NotBlank.in-dose e u)) =
+      rw (ne-eqb (getD r 0 0) 0x46 (λ f. omega arith), eq-eqb (getD r 0 0) 0x44 e, is-false (blankAt doseParts r 0) u)
+  row-refuses number (range (OutOfRange.in-fans e b u)) =
+      rw (eq-eqb (getD r 0 0) 0x46 e, is-true (blankAt fansParts r 0) b, is-false (fansFit (fansOf r)) u)
+  row-refuses number (range (OutOfRange.in-dose e b u)) =
+      rw (ne-eqb (getD r 0 0) 0x46 (λ f. omega arith), eq-eqb (getD r 0 0) 0x44 e, is-true (blankAt doseParts r 0) b, is-false (doseFits (doseOf r)) u)
+
+-- ---- 8
+
+-- the test of two doses
+clash-overlap : (x y : Dose) → T (clash x y) → Overlap x y
+clash-overlap x y t =
+    let bays = eqb (x .bay) (y .bay) in
+    let gap = apart 0 x y in
+    record {
+      bay = eqb→eq _ _ (and-left bays (not gap) t);
+      opens = omega (arith, nleb→lt (y .deadline + 0) (x .release) (neither (leb (x .deadline + 0) (y .release)) _ (and-right bays (not gap) t) .1));
+      closes = omega (arith, nleb→lt (x .deadline + 0) (y .release) (neither (leb (x .deadline + 0) (y .release)) _ (and-right bays (not gap) t) .0));
+    }
+  where
+    neither : (a b : Bool) → T (not (a || b)) → T (not a) × T (not b)
+    neither false b u = (tt, u)
+
+overlap-clash : (x y : Dose) → Overlap x y → T (clash x y)
+overlap-clash x y h =
+    rw (eq-eqb (x .bay) (y .bay) (h .bay), lt-leb (x .deadline + 0) (y .release) (omega arith), lt-leb (y .deadline + 0) (x .release) (omega arith)) tt
+
+-- a dose that clashes with one of the records in front
+clashes-with : (d : Dose) (front : List Entry) → T (clashesAny d (dosesIn front))
+    → (h : ℕ) × (h < length front) × (e : Dose) × (getD front h noEntry ≡ doseEntry e) × Overlap d e
+unfolding dosesIn clashesAny
+clashes-with d (fansEntry f ∷ front) t = let r = clashes-with d front t in (suc (r .0), omega (arith, r .1), r .2, r .3, r .4)
+clashes-with d (doseEntry e ∷ front) t =
+    let later = clashes-with d front in
+    or-elim (clash d e) (clashesAny d (dosesIn front)) t (λ u. (0, omega arith, e, refl, clash-overlap d e u))
+    (λ u. let r = later u in (suc (r .0), omega (arith, r .1), r .2, r .3, r .4))
+
+with-clashes : (d : Dose) (front : List Entry) (h : ℕ) (e : Dose) → h < length front → getD front h noEntry ≡ doseEntry e → Overlap d e
+    → T (clashesAny d (dosesIn front))
+unfolding dosesIn clashesAny
+with-clashes d [] h e l g o = absurd (omega arith)
+with-clashes d (fansEntry f ∷ front) zero e l g o = let z : _≡_ {A = ℕ} 0 1 = cc in absurd (omega arith)
+with-clashes d (fansEntry f ∷ front) (suc h) e l g o = with-clashes d front h e (omega arith) g o
+with-clashes d (doseEntry x ∷ front) zero e l g o =
+    let same : x ≡ e = cc in or-left (clash d x) (clashesAny d (dosesIn front)) (rw same (overlap-clash d e o))
+with-clashes d (doseEntry x ∷ front) (suc h) e l g o =
+    or-right (clash d x) (clashesAny d (dosesIn front)) (with-clashes d front h e (omega arith) g o)
+
+doses-append : (front es : List Entry) → dosesIn (front ++ es) ≡ dosesIn front ++ dosesIn es
+unfolding dosesIn
+doses-append [] es = refl
+doses-append (fansEntry f ∷ front) es = doses-append front es
+doses-append (doseEntry d ∷ front) es = ap (λ (l : List Dose). d ∷ l) (doses-append front es)
+
+module _ (all : List Entry) where
+  -- no record overlaps an earlier one
+  abbrev NoOverlaps : List Dose → Type 0
+  NoOverlaps ds = (k : ℕ) → OverlapsEarlier all k → ⊥
+
+  -- one is the first that does
+  abbrev FirstOverlap : ℕ → ℕ → Type 0
+  FirstOverlap number place = (number ≡ 8) × OverlapsEarlier all place × ((k : ℕ) → k < place → OverlapsEarlier all k → ⊥)
+
+  -- record i, with the records in front of it and behind it
+  module _ (front es : List Entry) (e : Entry) (i : ℕ) (a : all ≡ front ++ e ∷ es) (l : i ≡ length front) where
+    at-seam : getD all i noEntry ≡ e
+    at-seam = rw (a, l) (getD-append-seam front e es noEntry)
+
+    in-front : (h : ℕ) → h < i → getD all h noEntry ≡ getD front h noEntry
+    in-front h q = ap (λ (m : List Entry). getD m h noEntry) a ∙ List·getD-append front (e ∷ es) noEntry h (omega arith)
+
+    regroup : all ≡ (front ++ e ∷ []) ++ es
+    regroup = a ∙ sym (append-assoc front (e ∷ []) es)
+
+    one-longer : suc i ≡ length (front ++ e ∷ [])
+    one-longer = omega (arith, length-append front (e ∷ []))
+
+    none-more : ((k : ℕ) → k < i → OverlapsEarlier all k → ⊥) → (OverlapsEarlier all i → ⊥) → (k : ℕ) → k < suc i → OverlapsEarlier all k → ⊥
+    none-more none here k q o = elim (last q) [ inl z ↦ here (rw z at o) | inr m ↦ none k m o ]
+
+  clash-says : (es front : List Entry) (earlier : List Dose) (i : ℕ) → all ≡ front ++ es → earlier ≡ dosesIn front → i ≡ length front
+      → ((k : ℕ) → k < i → OverlapsEarlier all k → ⊥) → Says (noClash earlier i es) NoOverlaps FirstOverlap
+  unfolding noClash dosesIn
+  clash-says [] front earlier i a d l none = λ k o. none k (omega (arith, o .there, ap length a, length-append front [])) o
+  clash-says (fansEntry f ∷ es) front earlier i a d l none =
+      let e = fansEntry f in
+      clash-says es (front ++ e ∷ []) earlier (suc i) (regroup front es e i a l) (d ∙ sym (append-nil (dosesIn front)) ∙ sym (doses-append front (e ∷ [])))
+      (one-longer front es e i a l) (none-more front es e i a l none no-dose)
+    where
+      no-dose : OverlapsEarlier all i → ⊥
+      no-dose o =
+          let q = at-seam front es (fansEntry f) i a l in
+          let g = o .is in
+          let z : _≡_ {A = ℕ} 0 1 = cc in omega arith
+  clash-says (doseEntry x ∷ es) front earlier i a d l none =
+      let e = doseEntry x in
+      let later : (OverlapsEarlier all i → ⊥) → Says (noClash (earlier ++ x ∷ []) (suc i) es) NoOverlaps FirstOverlap = λ free. clash-says es (front ++ e ∷ []) (earlier ++ x ∷ []) (suc i) (regroup front es e i a l)
+      (ap (λ (m : List Dose). m ++ x ∷ []) d ∙ sym (doses-append front (e ∷ []))) (one-longer front es e i a l) (none-more front es e i a l none free) in
+      says-pick NoOverlaps FirstOverlap (clashesAny x earlier) _ _ (λ t. (refl, overlaps (rw d at t), none)) (λ t. later (λ o. T-not (clashesAny x earlier) t (rw d (clashing o))))
+    where
+      overlaps : T (clashesAny x (dosesIn front)) → OverlapsEarlier all i
+      overlaps t =
+          let r = clashes-with x front t in
+          record {
+            there = omega (arith, ap length a, length-append front (doseEntry x ∷ es));
+            dose = x;
+            is = at-seam front es (doseEntry x) i a l;
+            earlier = r .0;
+            before = omega (arith, r .1);
+            other = r .2;
+            was = in-front front es (doseEntry x) i a l (r .0) (omega (arith, r .1)) ∙ r .3;
+            overlap = r .4;
+          }
+
+      clashing : OverlapsEarlier all i → T (clashesAny x (dosesIn front))
+      clashing o =
+          let q = at-seam front es (doseEntry x) i a l in
+          let g = o .is in
+          let same : o .dose ≡ x = cc in
+          with-clashes x front (o .earlier) (o .other) (omega (arith, o .before)) (sym (in-front front es (doseEntry x) i a l (o .earlier) (o .before)) ∙ o .was)
+          (rw same at (o .overlap))
+
+-- 8 is given for the first, and is not where there is none
+first-clash : (es : List Entry) → Says (noClash [] 0 es) (NoOverlaps es) (FirstOverlap es)
+unfolding dosesIn
+first-clash es = clash-says es es [] [] 0 refl refl refl (λ k l. absurd (omega arith))
+
+clash-refuses : (es : List Entry) (i : ℕ) → OverlapsEarlier es i → ((k : ℕ) → k < i → OverlapsEarlier es k → ⊥) → noClash [] 0 es ≡ refused 8 i
+clash-refuses es i o none = go (noClash [] 0 es) (first-clash es)
+  where
+    go : (x : Reading (List Dose)) → Says x (NoOverlaps es) (FirstOverlap es) → x ≡ refused 8 i
+    go (read ds) s = absurd (s i o)
+    go (refused number place) s = elim (compare≤ place i) [
+      | inl h ↦ elim (eq-or-lt-of-le h) [ inl e ↦ let n = s .0 in cc | inr q ↦ absurd (none place q (s .1)) ]
+      | inr q ↦ absurd (s .2 i q o)
+    ]
+
+-- ---- all rows
+
+module _ (order : List ℕ) where
+  abbrev sizedTest : Bool
+  sizedTest = eqb (length order % 32) 0 && leb (length order) 1600
+
+  from-zero : (k : ℕ) → entryOf (recordAt order k) k ≡ entryOf (recordAt order (0 + k)) (0 + k)
+  from-zero k = ap (λ (h : ℕ). entryOf (recordAt order h) h) (sym (zero-add k))
+
+  order-says : Says (readOrder order) (λ o. Unit {0}) (Given order)
+  unfolding readOrder orderOf
+  order-says =
+      says-pick _ (Given order) sizedTest _ _ (λ t. says-then _ (Given order) (Entries order) (readAll entryOf order) orderOf (records (sized t)) (λ es g.
+      let one = eqb (length (fansIn es)) 1 in
+      let few = leb (length (dosesIn es)) 24 in
+      says-pick _ (Given order) one _ _ (λ f.
+      says-pick _ (Given order) few _ _
+      (λ d. says-then _ (Given order) (λ ds. Unit {0}) (noClash [] 0 es) _ (overlaps es g (eqb→eq _ _ f) (leb→le _ _ d) (noClash [] 0 es) (first-clash es)) (λ ds u. tt))
+      (λ d. many-doses es g (eqb→eq _ _ f) (nleb→lt _ _ d)))
+      (λ f. not-one-fans es g (λ e. T-not one f (rw e tt)))))
+      (λ t. wrong-length (unsized (eqb (length order % 32) 0) refl t))
+    where
+      sized : T sizedTest → Sized order
+      sized t = record {
+        whole = eqb→eq _ _ (and-left (eqb (length order % 32) 0) (leb (length order) 1600) t);
+        short = leb→le _ _ (and-right (eqb (length order % 32) 0) (leb (length order) 1600) t);
+      }
+
+      unsized : (b : Bool) → eqb (length order % 32) 0 ≡ b → T (not (b && leb (length order) 1600)) → (length order % 32 ≢ 0) ⊎ (1600 < length order)
+      unsized true e t = inr (nleb→lt _ _ t)
+      unsized false e t = inl (eqb-false _ _ e)
+
+      records : Sized order → Says (readAll entryOf order) (Entries order) (Given order)
+      records z = go (readAll entryOf order) (walk-says entryOf order noEntry (length order / 32) 0)
+        where
+          go : (x : Reading (List Entry)) → Says x (Listed entryOf order noEntry 0 (length order / 32)) (First entryOf order noEntry 0 (length order / 32))
+              → Says x (Entries order) (Given order)
+          go (read es) s = record { sized = z; count = s .0; each = λ k l. from-zero k ∙ s .1 k (omega (arith, s .0)) }
+          go (refused number place) s =
+              let r = refusal-says _ (AtRecord (recordAt order (s .0)) (s .0)) _ (entry-says (recordAt order (s .0)) (s .0)) number place (from-zero (s .0) ∙ s .3) in
+              rw (r .1) (wrong-record number (s .0) (record {
+                sized = z;
+                there = s .1;
+                earlier = λ k l. let e = s .2 k l in (e .0, from-zero k ∙ e .1);
+              }) (r .0))
+
+      overlaps : (es : List Entry) → Entries order es → length (fansIn es) ≡ 1 → length (dosesIn es) ≤ 24
+          → (x : Reading (List Dose)) → Says x (NoOverlaps es) (FirstOverlap es) → Says x (λ ds. Unit {0}) (Given order)
+      overlaps es g one few (read ds) s = tt
+      overlaps es g one few (refused number place) s = rw (s .0) (overlapping es g one few place (s .1) (s .2))
+
+  -- 2 is passed
+  past-length : Sized order → readOrder order ≡ andThen (readAll entryOf order) orderOf
+  unfolding readOrder
+  past-length z = rw (eq-eqb (length order % 32) 0 (z .whole), le-leb (length order) 1600 (z .short))
+
+  -- 3, 4, 5 are passed
+  past-records : (es : List Entry) → Entries order es → readOrder order ≡ orderOf es
+  past-records es g =
+      past-length (g .sized)
+      ∙ ap (λ (x : Reading (List Entry)). andThen x orderOf)
+      (walk-read entryOf order noEntry (length order / 32) 0 es (g .count, λ k l. sym (from-zero k) ∙ g .each k (omega (arith, g .count))))
+
+  -- a row gives its number and place
+  row-given : (number place : ℕ) → Given order number place → readOrder order ≡ refused number place
+  unfolding readOrder orderOf
+  row-given number place (wrong-length w) = elim w [
+    | inl h ↦ rw (ne-eqb (length order % 32) 0 h)
+    | inr h ↦ unsized (eqb (length order % 32) 0) (lt-leb (length order) 1600 h)
+  ]
+    where
+      unsized : (b : Bool) → leb (length order) 1600 ≡ false → pick (b && leb (length order) 1600) (andThen (readAll entryOf order) orderOf) (refused 2 0) ≡ refused 2 0
+      unsized true e = rw e
+      unsized false e = refl
+  row-given number place (wrong-record n i r row) =
+      past-length (r .sized)
+      ∙ ap (λ (x : Reading (List Entry)). andThen x orderOf)
+      (walk-refused entryOf order noEntry (length order / 32) 0 n i (i, r .there, λ k l. let e = r .earlier k l in (e .0, sym (from-zero k) ∙ e .1), sym (from-zero i) ∙ row-refuses (recordAt order i) i n row))
+  row-given number place (not-one-fans es g h) = past-records es g ∙ rw (ne-eqb (length (fansIn es)) 1 h)
+  row-given number place (many-doses es g one h) = past-records es g ∙ rw (one, lt-leb (length (dosesIn es)) 24 h)
+  row-given number place (overlapping es g one few i o none) = past-records es g ∙ rw (one, le-leb (length (dosesIn es)) 24 few, clash-refuses es i o none)
+
+  -- the table: a number and place are given exactly when their row says
+  pub given-exactly : (number place : ℕ) → (readOrder order ≡ refused number place) ↔ Given order number place
+  given-exactly number place = (refusal-says _ (Given order) (readOrder order) order-says number place, row-given number place)
+
+-- the rows have the numbers 2 to 8
+pub row-number : {order : List ℕ} {number place : ℕ} → Given order number place → (2 ≤ number) × (number ≤ 8)
+row-number (wrong-length w) = (omega arith, omega arith)
+row-number (wrong-record n i r (kind k)) = (omega arith, omega arith)
+row-number (wrong-record n i r (blank b)) = (omega arith, omega arith)
+row-number (wrong-record n i r (range f)) = (omega arith, omega arith)
+row-number (not-one-fans es g h) = (omega arith, omega arith)
+row-number (many-doses es g one h) = (omega arith, omega arith)
+row-number (overlapping es g one few i o none) = (omega arith, omega arith)
