@@ -5,10 +5,11 @@ use mathlib.Core.Logic.{_≢_}
 use mathlib.Core.List.{List, [], _∷_, _++_, map, append-assoc}
 use Prim.Native.Nat.{ℕ, zero, suc, _+_, _*_, _≤_, _<_, _^_}
 use native.Mathlib.Omega.{arith}
-use lib.Dec.{T}
+use borrow.Author.Tests.{ne-eqb}
+use lib.Dec.{T, eqb}
 use lib.ListN.{length, drop}
 use Rattle.model.specs.Sets.{Doses}
-use Rattle.model.specs.Records.{refused}
+use Rattle.model.specs.Records.{pick, read, refused}
 use Rattle.model.specs.Orders.{Order, readOrder}
 use Rattle.model.specs.Lists.{gather}
 use Rattle.model.specs.Classes.{Setting, Row, P, Classes, free, reserved, classP}
@@ -16,7 +17,7 @@ use Rattle.model.specs.Plans.{Class, Slot, classRecord, slotRecord, plan
 use Rattle.model.specs.Layout.{Piece, Lane, cut, line, pieceSlot, laneSlots, lane, intervalSlots, tableSlots, tableOf, slotsOf, classAt, classesOf}
 use Rattle.model.specs.Intervals.{instantAt, settingOf, fansPresent}
 use Rattle.model.specs.Stands.{Stands}
-use Rattle.model.specs.Answers.{Answer, refusal, FirstClass, aboveTop, tooFast, Refuses, unread, above, Accepts, Planned, Plans, Judges, Drawn, noPoint, pointOf, Draws, Pen, Moves, overwritten, planBytes}
+use Rattle.model.specs.Answers.{Answer, refusal, FirstClass, aboveTop, tooFast, Refuses, unread, above, Accepts, Planned, Plans, Judges, Drawn, noPoint, pointOf, Draws, Pen, Moves, overwritten, planBytes, planRoom}
 use Rattle.model.proofs.Sets.{Alike, weight-alike}
 use Rattle.model.proofs.Sums.{sum-congr}
 use Rattle.model.proofs.FanTime.{P-alike, openFans-alike}
@@ -83,6 +84,30 @@ judges-one (Judges.stands o g h) (Judges.refuses b s) = absurd (refused-not-acce
 judges-one {order} {plan} (Judges.stands o g h) (Judges.falls o′ g′ h′) = absurd (h′ (subst (λ (o : Order). Stands o plan) (one-order g g′) h))
 judges-one (Judges.stands o g h) (Judges.stands o′ g′ h′) = refl
 
+-- what verdicts, points and plans with room have in common: the order is refused, or it is accepted and the answer has another number and no place
+pub data OfOrder (order : List ℕ) : Answer → Type 0 where
+  order-refused : (a : Answer) → Refuses order a → OfOrder order a
+  order-accepted : (number : ℕ) (o : Order) → Accepts order o → number ≢ 9 → OfOrder order (refusal number 0)
+
+-- a verdict
+pub judged-order : {order plan : List ℕ} {a : Answer} → Judges order plan a → OfOrder order a
+judged-order (Judges.refuses a r) = order-refused a r
+judged-order (Judges.falls o g h) = order-accepted 10 o g (omega arith)
+judged-order (Judges.stands o g h) = order-accepted 0 o g (omega arith)
+
+-- a point
+pub drawn-order : {order plan : List ℕ} {d t : ℕ} {x : Drawn} → Draws order plan d t x → OfOrder order (x .answer)
+drawn-order (Draws.refuses a j n) = judged-order j
+drawn-order (Draws.no-dose o g h l) = order-accepted 11 o g (omega arith)
+drawn-order (Draws.too-late o g h l w) = order-accepted 12 o g (omega arith)
+drawn-order (Draws.draws o g h l w) = order-accepted 0 o g (omega arith)
+
+-- a plan, in a buffer with room
+pub planned-order : {order before : List ℕ} {r : Planned} {after : List ℕ} → planRoom ≤ length before → Plans order before r after → OfOrder order (r .answer)
+planned-order room (Plans.no-room s) = absurd (omega arith)
+planned-order room (Plans.refuses w a q) = order-refused a q
+planned-order room (Plans.plans w o g p C c x v) = order-accepted 0 o g (omega arith)
+
 -- ---- points and pens
 
 -- a plan that stands is not refused
@@ -112,25 +137,28 @@ draws-one (Draws.draws o g h l w) (Draws.no-dose o′ g′ h′ l′) = absurd (
 draws-one (Draws.draws o g h l w) (Draws.too-late o′ g′ h′ l′ w′) = absurd (omega arith)
 draws-one {order} {plan} {d} {t} (Draws.draws o g h l w) (Draws.draws o′ g′ h′ l′ w′) = ap (λ (o : Order). pointOf o plan d t) (one-order g g′)
 
+-- a pen's answer is the point at its next tick, also where it is refused
+pub pen-draws : {order plan : List ℕ} {pen : Pen} {x : Drawn} {to : Pen} → Moves order plan pen x to → Draws order plan (pen .dose) (pen .tick + 1) x
+pen-draws (Moves.refuses a j n) = Draws.refuses a j n
+pen-draws (Moves.no-dose o g h l) = Draws.no-dose o g h l
+pen-draws (Moves.at-end o g h l w) = Draws.too-late o g h l (omega arith)
+pen-draws (Moves.moves o g h l w) = Draws.draws o g h l (omega arith)
+
+-- the answer tells where the pen is: a tick on where it is 0, and where it was with any other
+abbrev penAfter : Pen → Drawn → Pen
+penAfter pen x = pick (eqb (x .answer .number) 0) (record { dose = pen .dose; tick = pen .tick + 1 }) pen
+
+pen-goes : {order plan : List ℕ} {pen : Pen} {x : Drawn} {to : Pen} → Moves order plan pen x to → to ≡ penAfter pen x
+pen-goes (Moves.refuses a j n) = rw (ne-eqb (a .number) 0 n)
+pen-goes (Moves.no-dose o g h l) = refl
+pen-goes (Moves.at-end o g h l w) = refl
+pen-goes (Moves.moves o g h l w) = refl
+
 -- a pen moves in one way
 pub moves-one : {order plan : List ℕ} {pen : Pen} {a b : Drawn} {to to′ : Pen} → Moves order plan pen a to → Moves order plan pen b to′ → (a ≡ b) × (to ≡ to′)
-moves-one (Moves.refuses a j n) (Moves.refuses b k m) = (ap noPoint (judges-one j k), refl)
-moves-one (Moves.refuses a j n) (Moves.no-dose o g h l) = absurd (stands-refused j n g h)
-moves-one (Moves.refuses a j n) (Moves.at-end o g h l w) = absurd (stands-refused j n g h)
-moves-one (Moves.refuses a j n) (Moves.moves o g h l w) = absurd (stands-refused j n g h)
-moves-one (Moves.no-dose o g h l) (Moves.refuses b k m) = absurd (stands-refused k m g h)
-moves-one (Moves.no-dose o g h l) (Moves.no-dose o′ g′ h′ l′) = (refl, refl)
-moves-one (Moves.no-dose o g h l) (Moves.at-end o′ g′ h′ l′ w′) = absurd (omega (arith, one-count g g′))
-moves-one (Moves.no-dose o g h l) (Moves.moves o′ g′ h′ l′ w′) = absurd (omega (arith, one-count g g′))
-moves-one (Moves.at-end o g h l w) (Moves.refuses b k m) = absurd (stands-refused k m g h)
-moves-one (Moves.at-end o g h l w) (Moves.no-dose o′ g′ h′ l′) = absurd (omega (arith, one-count g g′))
-moves-one (Moves.at-end o g h l w) (Moves.at-end o′ g′ h′ l′ w′) = (refl, refl)
-moves-one (Moves.at-end o g h l w) (Moves.moves o′ g′ h′ l′ w′) = absurd (omega arith)
-moves-one (Moves.moves o g h l w) (Moves.refuses b k m) = absurd (stands-refused k m g h)
-moves-one (Moves.moves o g h l w) (Moves.no-dose o′ g′ h′ l′) = absurd (omega (arith, one-count g g′))
-moves-one (Moves.moves o g h l w) (Moves.at-end o′ g′ h′ l′ w′) = absurd (omega arith)
-moves-one {order} {plan} {pen} (Moves.moves o g h l w) (Moves.moves o′ g′ h′ l′ w′) =
-    (ap (λ (o : Order). pointOf o plan (pen .dose) (pen .tick + 1)) (one-order g g′), refl)
+moves-one {pen = pen} h k =
+    let same = draws-one (pen-draws h) (pen-draws k) in
+    (same, pen-goes h ∙ ap (penAfter pen) same ∙ sym (pen-goes k))
 
 -- ---- plans
 

@@ -45,4 +45,5 @@ pub mod Planning
 pub mod Answers
 pub mod Bays
 pub mod Demand2
+pub mod Demand2OfAnswers
 pub mod Demand3

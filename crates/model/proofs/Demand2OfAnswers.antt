@@ -1,0 +1,104 @@
+-- Demand 2's refusal over the answers themselves: for every order that passes 2 to 8, and every answer that planning, judging, drawing and the pen
+-- may give, "the top rate" is the refusal exactly if no plan exists, and the number, W and P that come back show it.
+use mathlib.Core.Bool.{true}
+use mathlib.Core.Logic.{_↔_}
+use mathlib.Core.Path.{_≡_, _∙_, ap, refl, sym}
+use mathlib.Core.List.{List}
+use Prim.Native.Nat.{ℕ, _*_, _<_, _≤_}
+use lib.ListN.{length}
+use Rattle.model.specs.Sets.{Doses}
+use Rattle.model.specs.Records.{read}
+use Rattle.model.specs.Orders.{Order, readOrder}
+use Rattle.model.specs.Classes.{P, W, setNumber}
+use Rattle.model.specs.Intervals.{fansPresent, settingOf}
+use Rattle.model.specs.FreePlans.{FreePlan}
+use Rattle.model.specs.Answers.{Answer, Drawn, Draws, FirstClass, Judges, Moves, Pen, Planned, Plans, planRoom}
+use Rattle.model.proofs.Sets.{Alike, bits-one, weight-alike}
+use Rattle.model.proofs.FanTime.{P-alike}
+use Rattle.model.proofs.NextClass.{next-transport}
+use Rattle.model.proofs.Refusing.{refused-names}
+use Rattle.model.proofs.Answers.{OfOrder, drawn-order, judged-order, order-accepted, order-refused, pen-draws, planned-order, refused-not-accepted}
+use Rattle.model.proofs.Demand2.{names-the-set, refused-exactly, the-set-shows-it}
+
+-- the set B is the first class, with the W and P of the answer, and these are above the top rate
+pub record Shows (o : Order) (a : Answer) (B : Doses) : Type 0 where
+  pub first : FirstClass o B
+  pub grams : a .grams ≡ W (settingOf o) B
+  pub time : a .time ≡ P (settingOf o) (fansPresent o) B
+  pub above : a .time * o .topGrams < a .grams * o .topSeconds
+
+-- a number of a set, and every set of that number shows it: its bits alone say which doses
+pub record Names (o : Order) (a : Answer) : Type 0 where
+  pub set : Doses
+  pub number : setNumber (settingOf o .doses) set ≡ a .set
+  pub every : (B : Doses) → setNumber (settingOf o .doses) B ≡ a .set → Shows o a B
+
+-- so no plan is within it
+pub shows-none : (o : Order) (a : Answer) (B : Doses) → Shows o a B → FreePlan o → ⊥
+shows-none o a B s = the-set-shows-it o B (rw (s .grams, s .time) at (s .above))
+
+module _ (order : List ℕ) (o : Order) (e : readOrder order ≡ read o) where
+  nine : (a : Answer) → OfOrder order a → (a .number ≡ 9) ↔ (FreePlan o → ⊥)
+  nine a (order-refused b r) = (λ n. refused-exactly order o e .0 (a, r), λ no. ap (λ (x : Answer). x .number) (refused-names order o e a r .1))
+  nine a (order-accepted number o′ g n) = (
+    λ z. absurd (n z),
+    λ no. let r = refused-exactly order o e .1 no in absurd (refused-not-accepted (r .1) g),
+  )
+
+  names : (a : Answer) → OfOrder order a → a .number ≡ 9 → Names o a
+  names a (order-accepted number o′ g n) z = absurd (n z)
+  names a (order-refused b r) z =
+      let S = settingOf o in
+      let given = names-the-set order o e a r in
+      let A = given .0 in
+      let is = given .2 in
+      let same : (B : Doses) → setNumber (S .doses) B ≡ a .set → Alike (S .doses) A B =
+      λ B h. bits-one (S .doses) A B (sym (h ∙ ap (λ (x : Answer). x .set) is)) in
+      record {
+        set = A;
+        number = sym (ap (λ (x : Answer). x .set) is);
+        every = λ B h. record {
+          first = next-transport S (fansPresent o) (fansPresent o) (λ k. true) (λ k. true) A B (λ j. refl) (λ k l. refl) (same B h) (given .1);
+          grams = ap (λ (x : Answer). x .grams) is ∙ weight-alike (S .doses) (S .grams) A B (same B h);
+          time = ap (λ (x : Answer). x .time) is ∙ P-alike S (fansPresent o) A B (same B h);
+          above = given .3;
+        };
+      }
+
+  -- ---- "An order with no other fault is refused for the top rate exactly if no plan within that rate exists"
+
+  -- by planning, into a buffer with room
+  pub planning-refuses-exactly : (before : List ℕ) → planRoom ≤ length before → (r : Planned) (after : List ℕ) → Plans order before r after
+      → (r .answer .number ≡ 9) ↔ (FreePlan o → ⊥)
+  planning-refuses-exactly before room r after h = nine (r .answer) (planned-order room h)
+
+  -- by judging
+  pub judging-refuses-exactly : (plan : List ℕ) (a : Answer) → Judges order plan a → (a .number ≡ 9) ↔ (FreePlan o → ⊥)
+  judging-refuses-exactly plan a h = nine a (judged-order h)
+
+  -- by drawing
+  pub drawing-refuses-exactly : (plan : List ℕ) (d t : ℕ) (x : Drawn) → Draws order plan d t x → (x .answer .number ≡ 9) ↔ (FreePlan o → ⊥)
+  drawing-refuses-exactly plan d t x h = nine (x .answer) (drawn-order h)
+
+  -- by the pen
+  pub pen-refuses-exactly : (plan : List ℕ) (pen : Pen) (x : Drawn) (to : Pen) → Moves order plan pen x to → (x .answer .number ≡ 9) ↔ (FreePlan o → ⊥)
+  pen-refuses-exactly plan pen x to h = nine (x .answer) (drawn-order (pen-draws h))
+
+  -- ---- "and the set that shows it is named"
+
+  -- by planning
+  pub planning-names-the-set : (before : List ℕ) → planRoom ≤ length before → (r : Planned) (after : List ℕ) → Plans order before r after
+      → r .answer .number ≡ 9 → Names o (r .answer)
+  planning-names-the-set before room r after h = names (r .answer) (planned-order room h)
+
+  -- by judging
+  pub judging-names-the-set : (plan : List ℕ) (a : Answer) → Judges order plan a → a .number ≡ 9 → Names o a
+  judging-names-the-set plan a h = names a (judged-order h)
+
+  -- by drawing
+  pub drawing-names-the-set : (plan : List ℕ) (d t : ℕ) (x : Drawn) → Draws order plan d t x → x .answer .number ≡ 9 → Names o (x .answer)
+  drawing-names-the-set plan d t x h = names (x .answer) (drawn-order h)
+
+  -- by the pen
+  pub pen-names-the-set : (plan : List ℕ) (pen : Pen) (x : Drawn) (to : Pen) → Moves order plan pen x to → x .answer .number ≡ 9 → Names o (x .answer)
+  pen-names-the-set plan pen x to h = names (x .answer) (drawn-order (pen-draws h))
