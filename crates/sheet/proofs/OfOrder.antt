@@ -3,7 +3,7 @@ use mathlib.Core.Bool.{Bool, false, _&&_}
 use mathlib.Core.List.{List}
 use mathlib.Core.Logic.{inl, inr}
 use mathlib.Core.Path.{_≡_, ap, _∙_}
-use Prim.Native.Nat.{ℕ, _+_, _*_, _-_, _/_, _%_, _<_, _≤_}
+use Prim.Native.Nat.{ℕ, _+_, _*_, _-_, _%_, _<_, _≤_}
 use native.Mathlib.Omega.{arith}
 use borrow.Author.Tests.{lt-ltb, le-ltb}
 use lib.Arith.{digits-div, digits-mod}
@@ -19,15 +19,13 @@ use Rattle.order.specs.declared.Order.{Order}
 use Rattle.order.specs.Held.{asOrder}
 use Rattle.order.proofs.Fields.{doses-is, dose-is, few-doses}
 use Rattle.interval.specs.declared.Instants.{Instants}
-use Rattle.interval.specs.Held.{InstantsOf, spanIn, activeIn}
+use Rattle.interval.specs.Held.{InstantsOf, activeIn}
 use Rattle.interval.proofs.Laws.{count-is, span-is, active-is}
-use Rattle.sheet.specs.Sheet.{activeOf, settingFrom, Sheet}
+use Rattle.sheet.specs.Sheet.{ActiveIn, GramsIn, LensIn, activeOf, settingFrom, Sheet}
 use Rattle.sheet.proofs.Laws.{and-false}
 
 module _ (o : Order) (fit : Fit (asOrder o)) (s : Instants) (of : InstantsOf o s) (J : ℕ) (eJ : J ≡ s .count - 1) (active : List Bool) (lens grams : List ℕ)
-    (ha : (i : ℕ) → i < 1128 → getD active i false ≡ (ltb (i / 47) (o .count) && (ltb (i % 47) J && activeIn o s (i / 47) (i % 47))))
-    (hl : (j : ℕ) → j < 47 → getD lens j 0 ≡ spanIn s j) (hl′ : (j : ℕ) → 47 ≤ j → getD lens j 0 ≡ 0)
-    (hg : (k : ℕ) → k < o .count → getD grams k 0 ≡ getD (o .grams) k 0) (hg′ : (k : ℕ) → o .count ≤ k → getD grams k 0 ≡ 0) where
+    (ha : ActiveIn o s J active) (hl : LensIn s lens) (hg : GramsIn o grams) where
   intervals-is : J ≡ intervalCount (asOrder o)
   intervals-is = eJ ∙ ap (λ (m : ℕ). m - 1) (count-is o s of)
 
@@ -41,10 +39,10 @@ module _ (o : Order) (fit : Fit (asOrder o)) (s : Instants) (of : InstantsOf o s
       ∙ ap (λ (m : ℕ). ltb k (o .count) && (ltb m J && activeIn o s k m)) (digits-mod k hj)
 
   span-at : (j : ℕ) → j < 47 → getD lens j 0 ≡ settingOf (asOrder o) .len j
-  span-at j q = hl j q ∙ span-is o s of j
+  span-at j q = hl .intervals j q ∙ span-is o s of j
 
   grams-at : (k : ℕ) → k < o .count → getD grams k 0 ≡ settingOf (asOrder o) .grams k
-  grams-at k q = hg k q ∙ ap (λ (d : model.Dose). d .grams) (dose-is o k q)
+  grams-at k q = hg .doses k q ∙ ap (λ (d : model.Dose). d .grams) (dose-is o k q)
 
   -- their setting is the order's
   pub agree : Agree (settingFrom (o .count) J active lens grams) (settingOf (asOrder o))
@@ -62,10 +60,10 @@ module _ (o : Order) (fit : Fit (asOrder o)) (s : Instants) (of : InstantsOf o s
   sheet = record {
     few-doses = few-doses o fit;
     few-intervals = few-spans;
-    short = λ j. elim (compare≤ 47 j) [ inl h ↦ omega (arith, hl′ j h) | inr h ↦ omega (arith, span-at j h, instants-week (asOrder o) fit (j + 1)) ];
-    light = λ k. elim (compare≤ (o .count) k) [ inl h ↦ omega (arith, hg′ k h) | inr h ↦ omega (arith, grams-at k h, fit .light k (omega (arith, doses-is o))) ];
+    short = λ j. elim (compare≤ 47 j) [ inl h ↦ omega (arith, hl .past j h) | inr h ↦ omega (arith, span-at j h, instants-week (asOrder o) fit (j + 1)) ];
+    light = λ k. elim (compare≤ (o .count) k) [ inl h ↦ omega (arith, hg .past k h) | inr h ↦ omega (arith, grams-at k h, fit .light k (omega (arith, doses-is o))) ];
     heavy = λ k q. omega (arith, grams-at k q, fit .some-grams k (omega (arith, doses-is o)));
-    no-grams = hg′;
+    no-grams = hg .past;
     no-dose = λ k j h l q. active-at k j l q ∙ rw (le-ltb k (o .count) h);
     no-interval = λ k j l h q. active-at k j l q ∙ rw (le-ltb j J h) (and-false (ltb k (o .count)));
   }

@@ -1,11 +1,34 @@
 -- The arrays in which classes are found: what stands in them, and the setting that they stand for.
 use mathlib.Core.Path.{_≡_}
-use mathlib.Core.Bool.{Bool, false}
+use mathlib.Core.Bool.{Bool, false, _&&_}
 use mathlib.Core.List.{List}
-use Prim.Native.Nat.{ℕ, _+_, _*_, _<_, _≤_}
+use Prim.Native.Nat.{ℕ, _+_, _*_, _/_, _%_, _<_, _≤_}
+use lib.Dec.{ltb}
 use lib.ListN.{getD}
 use Rattle.model.specs.Sets.{Doses}
 use Rattle.model.specs.Classes.{Setting, Row}
+use Rattle.order.specs.declared.Order.{Order}
+use Rattle.interval.specs.declared.Instants.{Instants}
+use Rattle.interval.specs.Held.{spanIn, activeIn}
+
+-- ---- the arrays of an order
+
+-- the grams of each dose, and zeros past the doses
+pub record GramsIn (o : Order) (grams : List ℕ) : Type 0 where
+  pub doses : (k : ℕ) → k < o .count → getD grams k 0 ≡ getD (o .grams) k 0
+  pub past : (k : ℕ) → o .count ≤ k → getD grams k 0 ≡ 0
+
+-- the length of each interval, and zeros past the array
+pub record LensIn (s : Instants) (lens : List ℕ) : Type 0 where
+  pub intervals : (j : ℕ) → j < 47 → getD lens j 0 ≡ spanIn s j
+  pub past : (j : ℕ) → 47 ≤ j → getD lens j 0 ≡ 0
+
+-- dose k is active in interval j, at k * 47 + j: both are there, and the window reaches over the interval
+abbrev pub ActiveIn : Order → Instants → ℕ → List Bool → Type 0
+ActiveIn o s J active =
+    (i : ℕ) → i < 1128 → getD active i false ≡ (ltb (i / 47) (o .count) && (ltb (i % 47) J && activeIn o s (i / 47) (i % 47)))
+
+-- ---- what any such arrays stand for
 
 -- the set that an array of marks holds
 abbrev pub setOf : List Bool → Doses

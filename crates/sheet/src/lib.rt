@@ -3,15 +3,15 @@ use interval::Instants;
 use order::Order;
 use steps::wide;
 ghost use mathlib.Core.Path.{_≡_};
-ghost use mathlib.Core.Bool.{false, _&&_};
-ghost use Prim.Native.Nat.{ℕ, _/_, _%_, _<_, _≤_};
+ghost use mathlib.Core.Bool.{_&&_};
+ghost use Prim.Native.Nat.{_<_, _≤_};
 ghost use lib.Dec.{ltb};
-ghost use lib.ListN.{getD};
-ghost use Rattle.interval.specs.Held.{spanIn, activeIn};
+ghost use Rattle.interval.specs.Held.{activeIn};
+ghost use Rattle.sheet.specs.Sheet.{GramsIn, LensIn, ActiveIn};
 
 pub fn grams_in(o: Order) -> [u64; 24]
     requires { ⌜ o .count ≤ 24 ⌝ }
-    ensures { λ r. ⌜ ((k : ℕ) → k < o .count → getD r k 0 ≡ getD (o .grams) k 0) × ((k : ℕ) → o .count ≤ k → getD r k 0 ≡ 0) ⌝ }
+    ensures { λ r. ⌜ GramsIn o r ⌝ }
 {
     let mut grams = [0u64; 24];
     let mut k = 0;
@@ -23,7 +23,7 @@ pub fn grams_in(o: Order) -> [u64; 24]
 }
 
 pub fn lens_in(s: Instants) -> [u64; 47]
-    ensures { λ r. ⌜ ((j : ℕ) → j < 47 → getD r j 0 ≡ spanIn s j) × ((j : ℕ) → 47 ≤ j → getD r j 0 ≡ 0) ⌝ }
+    ensures { λ r. ⌜ LensIn s r ⌝ }
 {
     let mut lens = [0u64; 47];
     let mut j = 0;
@@ -49,7 +49,7 @@ fn active_at(o: Order, s: Instants, intervals: usize, k: usize, j: usize) -> boo
 }
 
 pub fn active_in_order(o: Order, s: Instants, intervals: usize) -> [bool; 1128]
-    ensures { λ r. ⌜ ((i : ℕ) → i < 1128 → getD r i false ≡ (ltb (i / 47) (o .count) && (ltb (i % 47) intervals && activeIn o s (i / 47) (i % 47)))) ⌝ }
+    ensures { λ r. ⌜ ActiveIn o s intervals r ⌝ }
 {
     let mut active = [false; 1128];
     let mut i = 0;

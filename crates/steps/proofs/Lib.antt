@@ -1,4 +1,5 @@
 pub mod Tests
 pub mod Loops
+pub mod Arrays
 pub mod Bits
 pub mod Products

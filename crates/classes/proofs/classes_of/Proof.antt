@@ -39,7 +39,7 @@ phases-requires c κs =
     let active = c .before .before .before .before .before .before .before .before .before .before .active-in-order in
     let lens = c .before .before .before .before .before .before .before .before .before .lens-in in
     let grams = c .before .before .before .before .before .before .before .before .grams-in in
-    (refl, refl, sheet (A .o) fit (s .result) (s .ensures) (J .result) (J .ensures) (active .result) (lens .result) (grams .result) (active .ensures) (lens .ensures .0) (lens .ensures .1) (grams .ensures .0) (grams .ensures .1), blank)
+    (refl, refl, sheet (A .o) fit (s .result) (s .ensures) (J .result) (J .ensures) (active .result) (lens .result) (grams .result) (active .ensures) (lens .ensures) (grams .ensures), blank)
 
 returns : tie.Need-returns
 returns c =
@@ -50,7 +50,7 @@ returns c =
     let active = c .before .before .before .before .before .before .before .before .before .before .before .active-in-order in
     let lens = c .before .before .before .before .before .before .before .before .before .before .lens-in in
     let grams = c .before .before .before .before .before .before .before .before .before .grams-in in
-    of-order (asOrder (A .o)) fit _ _ (active .result) (lens .result) (grams .result) (agree (A .o) fit (s .result) (s .ensures) (J .result) (J .ensures) (active .result) (lens .result) (grams .result) (active .ensures) (lens .ensures .0) (lens .ensures .1) (grams .ensures .0) (grams .ensures .1))
+    of-order (asOrder (A .o)) fit _ _ (active .result) (lens .result) (grams .result) (agree (A .o) fit (s .result) (s .ensures) (J .result) (J .ensures) (active .result) (lens .result) (grams .result) (active .ensures) (lens .ensures) (grams .ensures))
     _ (fans-is (A .o)) _ _ _ (c .phases .ensures .0) (c .phases .ensures .1)
 
 pub classes-of-spec : {M : Type 1} → statement M
