@@ -247,13 +247,6 @@ module _ (n J : ℕ) (active : List Bool) (lens grams : List ℕ) (F : Row) (few
               (λ k j q h. shares-below l k j m q h) (so .valid l m)
 
         -- nothing stands past the doses, the intervals and the classes
-        not-past : (k : ℕ) → n ≤ k → k < 24 → A k ≡ false
-        not-past k g l = off (A k) (chosen .fewer k) (so .past .no-rest k g l)
-          where
-            off : (b : Bool) → (T b → T (setOf (t .remaining) k)) → setOf (t .remaining) k ≡ false → b ≡ false
-            off true f e = absurd (rw e at (f tt))
-            off false f e = refl
-
         none-of : (b : Bool) {u v : ℕ} → u ≡ 0 → v ≡ 0 → choose b u v ≡ 0
         none-of true e f = e
         none-of false e f = f
@@ -261,13 +254,13 @@ module _ (n J : ℕ) (active : List Bool) (lens grams : List ℕ) (F : Row) (few
         past′ : Past n J t′ table′ shares′
         past′ = record {
           no-rest = λ k g l. after .remaining k l ∙ ap (λ (b : Bool). b && not (getD members k false)) (so .past .no-rest k g l);
-          no-number = λ k g l. after .numbers k l ∙ ap (λ (b : Bool). choose b i (getD (t .numbers) k 0)) (not-past k g l) ∙ so .past .no-number k g l;
+          no-number = λ k g l. after .numbers k l ∙ ap (λ (b : Bool). choose b i (getD (t .numbers) k 0)) (chosen .past k g l) ∙ so .past .no-number k g l;
           no-grams = λ l g. after .other-grams l (λ e. omega (arith, after .class)) ∙ so .past .no-grams l (omega (arith, after .class));
           no-time = λ l g. after .other-time l (λ e. omega (arith, after .class)) ∙ so .past .no-time l (omega (arith, after .class));
           no-row = λ l j g. row .others l j (λ e. omega (arith, after .class)) ∙ so .past .no-row l j (omega (arith, after .class));
           no-column = λ l j q g h. each-class (λ l. rowAt table′ l j ≡ 0) (row .own j h ∙ measured .no-fans j g h)
               (λ l m. row .others l j (λ e. omega arith) ∙ so .past .no-column l j m g h) l q;
-          no-dose = λ k j g l q. cell-at k j l q ∙ ap (λ (b : Bool). choose b (cell x k j) (cell shares k j)) (not-past k g l) ∙ so .past .no-dose k j g l q;
+          no-dose = λ k j g l q. cell-at k j l q ∙ ap (λ (b : Bool). choose b (cell x k j) (cell shares k j)) (chosen .past k g l) ∙ so .past .no-dose k j g l q;
           no-interval = λ k j l g q. cell-at k j l q ∙ none-of (A k) (chosen .none k j l q (quiet k j l g q)) (so .past .no-interval k j l g q);
         }
 

@@ -1,15 +1,17 @@
 -- Laws of the arrays that are filled for a candidate. Assumes nothing.
-use mathlib.Core.Bool.{Bool, false, _&&_}
+use mathlib.Core.Bool.{Bool, true, false, _&&_}
 use mathlib.Core.List.{List}
 use mathlib.Core.Logic.{inl, inr}
-use mathlib.Core.Path.{_≡_, sym}
+use mathlib.Core.Path.{_≡_, refl, sym}
 use Prim.Native.Nat.{ℕ, _+_, _*_, _/_, _%_, _<_, _≤_}
 use native.Mathlib.Omega.{arith}
 use lib.Arith.{digits-div, digits-mod}
+use lib.Dec.{T}
 use lib.ListN.{length, getD, List·getD-eq-default}
-use Rattle.model.specs.Sets.{on}
+use Rattle.model.specs.Sets.{on, Doses}
 use Rattle.model.proofs.Fractions.{compare≤}
 use Rattle.sheet.proofs.Laws.{and-false}
+use Rattle.rounds.specs.Rounds.{NonePast}
 
 -- a room by dose and interval, and by its place
 pub room-place : (active set : List Bool) (lens : List ℕ) (w k j : ℕ) → j < 47
@@ -26,3 +28,11 @@ marks-both n dead set part e g all k = elim (compare≤ n k) [
   where
     past : (l : List Bool) → length l ≤ k → getD l k false ≡ false
     past l h = List·getD-eq-default l false {n = k} h
+
+-- a set without members past the doses has no part there
+pub none-past : (n : ℕ) (A B : Doses) → ((k : ℕ) → T (A k) → T (B k)) → NonePast n B → NonePast n A
+none-past n A B f none k g l = off (A k) (f k) (none k g l)
+  where
+    off : (a : Bool) {b : Bool} → (T a → T b) → b ≡ false → a ≡ false
+    off true f e = absurd (rw e at (f tt))
+    off false f e = refl

@@ -1,2 +1,3 @@
 pub mod Laws
 pub mod OneRound
+pub mod OneAnswer

@@ -2,7 +2,7 @@
 use mathlib.Core.Path.{_≡_}
 use mathlib.Core.Bool.{Bool, true, false}
 use mathlib.Core.List.{List}
-use Prim.Native.Nat.{ℕ, _*_, _/_, _%_, _<_}
+use Prim.Native.Nat.{ℕ, _*_, _/_, _%_, _<_, _≤_}
 use lib.Dec.{T}
 use lib.ListN.{getD}
 use Rattle.model.specs.Sets.{on, Doses, Sub, Nonempty}
@@ -10,6 +10,9 @@ use Rattle.model.specs.Classes.{Setting, Row, W, NextClass}
 use Rattle.model.specs.Shares.{Valid}
 use Rattle.model.proofs.Rounds.{Keeps}
 use Rattle.chains.specs.Chains.{cell}
+use Rattle.sheet.specs.Sheet.{setOf, Below}
+use Rattle.measure.specs.Measure.{Measured}
+use Rattle.rounds.specs.declared.Class.{Class}
 
 -- ---- what is filled for a candidate
 
@@ -49,9 +52,19 @@ pub record Tried (S : Setting) (row : Row) (A : Doses) (x : List ℕ) (met : Boo
   pub fewer : (k : ℕ) → T (part k) → T (A k)
   pub none : NoShares S x
 
+-- no number past the n doses is marked
+abbrev pub NonePast : ℕ → Doses → Type 0
+NonePast n A = (k : ℕ) → n ≤ k → k < 24 → A k ≡ false
+
 -- A is the next class, with the shares x
 pub record Chosen (S : Setting) (row : Row) (rest A : Doses) (x : List ℕ) : Type 0 where
   pub next : NextClass S row rest A
   pub valid : Valid S row A (cell x)
-  pub fewer : (k : ℕ) → T (A k) → T (rest k)
+  pub past : NonePast (S .doses) A
   pub none : NoShares S x
+
+-- the next class c of the remaining doses: its doses, W and P, and the fans that it reserves; x are its shares
+pub record NextOf (S : Setting) (row : Row) (rest : Doses) (c : Class) (x : List ℕ) : Type 0 where
+  pub measured : Measured S row (setOf (c .members)) (c .grams) (c .time) (c .reserved)
+  pub small : Below 24 (c .reserved)
+  pub chosen : Chosen S row rest (setOf (c .members)) x

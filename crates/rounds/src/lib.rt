@@ -11,7 +11,7 @@ ghost use lib.ListN.{length, getD};
 ghost use Rattle.model.specs.Sets.{Nonempty};
 ghost use Rattle.sheet.specs.Sheet.{setOf, rowOf, Below, settingFrom, Sheet};
 ghost use Rattle.measure.specs.Measure.{Measured};
-ghost use Rattle.rounds.specs.Rounds.{RoomsTo, Rooms, Holds, Needs, Tried, Chosen};
+ghost use Rattle.rounds.specs.Rounds.{RoomsTo, Rooms, Holds, Needs, NonePast, Tried, NextOf};
 
 // "Its share in an interval of length L is at most L × W units, only where it is active": the rooms of dose k.
 fn lay_row(
@@ -156,8 +156,8 @@ pub fn next_class(
     remaining: [bool; 24],
     sequence: [usize; 24],
 ) -> Class
-    requires { ⌜ (length (now x) ≡ 1128) × Sheet doses intervals (now active) (now lens) (now grams) × Nonempty doses (setOf remaining) ⌝ }
-    ensures { λ r. ⌜ Measured (settingFrom doses intervals (now (active .entry)) (now (lens .entry)) (now (grams .entry))) (rowOf free) (setOf (r .members)) (r .grams) (r .time) (r .reserved) × Below 24 (r .reserved) × Chosen (settingFrom doses intervals (now (active .entry)) (now (lens .entry)) (now (grams .entry))) (rowOf free) (setOf remaining) (setOf (r .members)) (now (x .exit)) ⌝ }
+    requires { ⌜ (length (now x) ≡ 1128) × Sheet doses intervals (now active) (now lens) (now grams) × Nonempty doses (setOf remaining) × NonePast doses (setOf remaining) ⌝ }
+    ensures { λ r. ⌜ NextOf (settingFrom doses intervals (now (active .entry)) (now (lens .entry)) (now (grams .entry))) (rowOf free) (setOf remaining) r (now (x .exit)) ⌝ }
 {
     let mut set = remaining;
     loop {

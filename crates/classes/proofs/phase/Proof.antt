@@ -17,7 +17,7 @@ next-class-requires : tie.Need-next-class-requires
 next-class-requires c κs =
     let A = c .before .before .before .before .before .args in
     let sheet = c .before .before .before .before .before .pre .1 in
-    (refl, sheet, some-remain (A .doses) (A .intervals) (A .active .now) (A .lens .now) (A .grams .now) (λ j. A .fans) (sheet .few-doses) (sheet .few-intervals) (A .tally) _ _ (c .before .before .before .before .before .pre .2) (c .before .before .before .before .before .pre .3))
+    (refl, sheet, some-remain (A .doses) (A .intervals) (A .active .now) (A .lens .now) (A .grams .now) (λ j. A .fans) (sheet .few-doses) (sheet .few-intervals) (A .tally) _ _ (c .before .before .before .before .before .pre .2) (c .before .before .before .before .before .pre .3), c .before .before .before .before .before .pre .2 .past .no-rest)
 
 reserve-requires : tie.Need-reserve-requires
 reserve-requires c κs = search needs
@@ -41,8 +41,8 @@ returns c =
     let next = c .before .before .before .before .before .before .before .before .before .before .before .next-class .ensures in
     let after = c .after .ensures in (
       so-far-next (A .doses) (A .intervals) (A .active .now) (A .lens .now) (A .grams .now) (λ j. A .fans) (sheet .few-doses) (sheet .few-intervals) (A .tally) _ _ (c .before .before .before .before .before .before .before .before .before .before .before .before .before .before .before .before .before .pre .2) (c .before .before .before .before .before .before .before .before .before .before .before .before .before .before .before .before .before .pre .3)
-          (c .before .before .before .before .before .before .before .before .before .before .before .before .before .before .free-fans .result) (c .before .before .before .before .before .before .before .before .before .before .before .before .before .before .free-fans .ensures) (c .before .before .before .before .before .before .before .before .before .before .before .next-class .result .members) _ (c .before .before .before .before .before .before .before .before .before .before .before .next-class .result .reserved) _ _ (next .0) (next .2) (c .after .result) _ _ after (c .before .before .before .before .before .before .before .reserve .ensures) (c .before .before .before .keep-shares .ensures) (sheet .no-interval),
-      omega (arith, after .classed, some-size (A .doses) (setOf (c .before .before .before .before .before .before .before .before .before .before .before .next-class .result .members)) (next .2 .next .some)),
+          (c .before .before .before .before .before .before .before .before .before .before .before .before .before .before .free-fans .result) (c .before .before .before .before .before .before .before .before .before .before .before .before .before .before .free-fans .ensures) (c .before .before .before .before .before .before .before .before .before .before .before .next-class .result .members) _ (c .before .before .before .before .before .before .before .before .before .before .before .next-class .result .reserved) _ _ (next .measured) (next .chosen) (c .after .result) _ _ after (c .before .before .before .before .before .before .before .reserve .ensures) (c .before .before .before .keep-shares .ensures) (sheet .no-interval),
+      omega (arith, after .classed, some-size (A .doses) (setOf (c .before .before .before .before .before .before .before .before .before .before .before .next-class .result .members)) (next .chosen .next .some)),
     )
 
 pub phase-spec : {M : Type 1} → statement M

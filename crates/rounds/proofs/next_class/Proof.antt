@@ -7,6 +7,7 @@ use borrow.Author.Needs.{needs}
 use Rattle.model.specs.Sets.{weight}
 use Rattle.sheet.specs.Sheet.{setOf, rowOf, settingFrom}
 use Rattle.rounds.specs.Rounds.{Candidate}
+use Rattle.rounds.proofs.Laws.{none-past}
 use Rattle.rounds.proofs.OneRound.{first-candidate}
 use Rattle.rounds.proofs.next_class.Statement.{statement}
 use Rattle.rounds.proofs.next_class.Tie as tie
@@ -29,7 +30,17 @@ same-length c = search needs
 returns : tie.Need-returns Inv-loop μ-loop
 returns c =
     let t = c .before .before .before .before .before .try-candidate .ensures in
-    (t .0, t .1, record { next = t .2 .class (c .before .if1 .taken) _ (c .before .before .before .before .before .before .before .loop .inv .1); valid = t .2 .valid (c .before .if1 .taken); fewer = c .before .before .before .before .before .before .before .loop .inv .2; none = t .2 .none })
+    let L = c .before .before .before .before .before .before .before .loop in
+    record {
+      measured = t .0;
+      small = t .1;
+      chosen = record {
+        next = t .2 .class (c .before .if1 .taken) _ (L .inv .1);
+        valid = t .2 .valid (c .before .if1 .taken);
+        past = none-past _ _ _ (L .inv .2) (c .before .before .before .before .before .before .before .before .before .pre .3);
+        none = t .2 .none;
+      };
+    }
 
 loop-less : tie.Need-loop-less Inv-loop μ-loop
 loop-less c = c .before .before .before .before .try-candidate .ensures .2 .lighter (c .if1 .left) _ (c .before .before .before .before .before .before .loop .inv .1)
