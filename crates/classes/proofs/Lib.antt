@@ -3,3 +3,4 @@ pub mod OnePhase
 pub mod OfOrder
 pub mod OverTop
 pub mod OneAnswer
+pub mod Ranks

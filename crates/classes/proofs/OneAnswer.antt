@@ -1,12 +1,12 @@
--- Two answers for one order are the same: the tally, the table of reservations, and refusal 9. Assumes nothing.
+-- Two answers of a function of `classes` are equal: tallies, the table of reservations, and refusal 9. The sequence of the first fill is in Ranks.
+-- Assumes nothing.
 use mathlib.Core.Bool.{Bool, true, false}
-use mathlib.Core.List.{List}
-use mathlib.Core.Logic.{inl, inr}
+use mathlib.Core.List.{List, []}
 use mathlib.Core.Path.{_≡_, refl, sym, ap, _∙_, fun-ext}
 use Prim.Native.Nat.{ℕ, _^_, _<_, _≤_}
 use native.Mathlib.Omega.{arith}
 use lib.Dec.{eqb→eq}
-use lib.ListN.{getD}
+use lib.ListN.{length, getD}
 use Rattle.model.specs.Sets.{Doses}
 use Rattle.model.specs.Classes.{Setting, Row, P, free}
 use Rattle.model.specs.Orders.{Order}
@@ -14,23 +14,65 @@ use Rattle.model.specs.Intervals.{settingOf, fansPresent}
 use Rattle.model.specs.Answers.{Answer, FirstClass, tooFast}
 use Rattle.model.proofs.Sets.{Alike, alike-sub, weight-alike}
 use Rattle.model.proofs.FanTime.{P-alike, openFans-alike}
-use Rattle.model.proofs.Fractions.{compare≤}
 use Rattle.model.proofs.NextClass.{next-unique}
 use Rattle.model.proofs.Sequence.{classes-unique, count-unique, free-alike, all-in, upto-find}
+use Rattle.steps.proofs.Tests.{alike, below-or}
+use Rattle.steps.proofs.Arrays.{places-one}
 use Rattle.classes.specs.declared.Tally.{Tally}
 use Rattle.classes.specs.declared.TooFast.{TooFast}
-use Rattle.classes.specs.Phase.{rowAt, classesIn}
+use Rattle.classes.specs.Phase.{rowAt, classesIn, Start, After}
 use Rattle.classes.specs.Answer.{ClassesOf, SharesOf, nine, AgainstTop}
 
--- the same in every cell
-pub record Same (t t′ : Tally) (table table′ : List (List ℕ)) : Type 0 where
-  pub class : t .class ≡ t′ .class
-  pub classed : t .classed ≡ t′ .classed
-  pub remaining : (k : ℕ) → k < 24 → getD (t .remaining) k false ≡ getD (t′ .remaining) k false
-  pub numbers : (k : ℕ) → k < 24 → getD (t .numbers) k 0 ≡ getD (t′ .numbers) k 0
-  pub grams : (i : ℕ) → getD (t .grams) i 0 ≡ getD (t′ .grams) i 0
-  pub time : (i : ℕ) → getD (t .time) i 0 ≡ getD (t′ .time) i 0
-  pub rows : (i j : ℕ) → j < 47 → rowAt table i j ≡ rowAt table′ i j
+-- ---- tallies and tables
+
+-- arrays of 24 places
+pub record Sized (t : Tally) : Type 0 where
+  pub remaining : length (t .remaining) ≡ 24
+  pub numbers : length (t .numbers) ≡ 24
+  pub grams : length (t .grams) ≡ 24
+  pub time : length (t .time) ≡ 24
+
+-- tallies that agree in every place are one
+module _ {t t′ : Tally} (l : Sized t) (l′ : Sized t′) where
+  tally-one : t .class ≡ t′ .class → t .classed ≡ t′ .classed → ((k : ℕ) → k < 24 → getD (t .remaining) k false ≡ getD (t′ .remaining) k false)
+      → ((k : ℕ) → k < 24 → getD (t .numbers) k 0 ≡ getD (t′ .numbers) k 0) → ((i : ℕ) → i < 24 → getD (t .grams) i 0 ≡ getD (t′ .grams) i 0)
+      → ((i : ℕ) → i < 24 → getD (t .time) i 0 ≡ getD (t′ .time) i 0) → t ≡ t′
+  tally-one c d r n g p =
+      let r′ = places-one false 24 (l .remaining) (l′ .remaining) r in
+      let n′ = places-one 0 24 (l .numbers) (l′ .numbers) n in
+      let g′ = places-one 0 24 (l .grams) (l′ .grams) g in
+      let p′ = places-one 0 24 (l .time) (l′ .time) p in
+      λ i. record { remaining = r′ i; class = c i; classed = d i; numbers = n′ i; grams = g′ i; time = p′ i }
+
+  -- two answers of `Tally::start`
+  pub start-one : (n : ℕ) → Start n t → Start n t′ → t ≡ t′
+  start-one n a b = tally-one
+      (a .class ∙ sym (b .class))
+      (a .classed ∙ sym (b .classed))
+      (λ k q. a .remaining k q ∙ sym (b .remaining k q))
+      (λ k q. ap (λ (m : List ℕ). getD m k 0) (a .numbers ∙ sym (b .numbers)))
+      (λ i q. ap (λ (m : List ℕ). getD m i 0) (a .grams ∙ sym (b .grams)))
+      (λ i q. ap (λ (m : List ℕ). getD m i 0) (a .time ∙ sym (b .time)))
+
+  -- two answers of `Tally::after`
+  pub after-one : (n : ℕ) (members : List Bool) (w p : ℕ) (before : Tally) → After n members w p before t → After n members w p before t′ → t ≡ t′
+  after-one n members w p before a b = tally-one
+      (a .class ∙ sym (b .class))
+      (a .classed ∙ sym (b .classed))
+      (λ k q. a .remaining k q ∙ sym (b .remaining k q))
+      (λ k q. a .numbers k q ∙ sym (b .numbers k q))
+      (λ i q. alike i (before .class) (λ e. rw e (a .grams ∙ sym (b .grams))) (λ e. a .other-grams i e ∙ sym (b .other-grams i e)))
+      (λ i q. alike i (before .class) (λ e. rw e (a .time ∙ sym (b .time))) (λ e. a .other-time i e ∙ sym (b .other-time i e)))
+
+-- 24 rows of 47 places
+pub record Tabled (table : List (List ℕ)) : Type 0 where
+  pub rows : length table ≡ 24
+  pub places : (i : ℕ) → i < 24 → length (getD table i []) ≡ 47
+
+table-one : {table table′ : List (List ℕ)} → Tabled table → Tabled table′ → ((i j : ℕ) → i < 24 → j < 47 → rowAt table i j ≡ rowAt table′ i j) → table ≡ table′
+table-one l l′ h = places-one [] 24 (l .rows) (l′ .rows) (λ i q. places-one 0 47 (l .places i q) (l′ .places i q) (λ j r. h i j q r))
+
+-- ---- the classes of an order
 
 module _ (o : Order) where
   abbrev S : Setting
@@ -64,9 +106,6 @@ module _ (o : Order) where
 
     -- and past the doses, the intervals and the classes there is nothing: every cell but the shares is settled
     module _ (table table′ : List (List ℕ)) (shares shares′ : List ℕ) (s : SharesOf o t table shares) (s′ : SharesOf o t′ table′ shares′) where
-      below-or : {X : Type 0} (i m : ℕ) → (i < m → X) → (m ≤ i → X) → X
-      below-or i m f g = elim (compare≤ m i) [ inl h ↦ g h | inr h ↦ f h ]
-
       one-row : (i j : ℕ) → j < 47 → rowAt table i j ≡ rowAt table′ i j
       one-row i j q =
           below-or i (t .class)
@@ -78,16 +117,18 @@ module _ (o : Order) where
           (λ g. s .past .no-column i j l g q ∙ sym (s′ .past .no-column i j (omega (arith, one-count)) g q)))
           (λ g. s .past .no-row i j g ∙ sym (s′ .past .no-row i j (omega (arith, one-count))))
 
-      pub one-answer : Same t t′ table table′
-      one-answer = record {
-        class = one-count;
-        classed = c .classed ∙ sym (c′ .classed);
-        remaining = λ k q. below-or k (S .doses) (λ l. c .no-rest k l ∙ sym (c′ .no-rest k l)) (λ g. s .past .no-rest k g q ∙ sym (s′ .past .no-rest k g q));
-        numbers = λ k q. below-or k (S .doses) (one-number k) (λ g. s .past .no-number k g q ∙ sym (s′ .past .no-number k g q));
-        grams = λ i. below-or i (t .class) (one-grams i) (λ g. s .past .no-grams i g ∙ sym (s′ .past .no-grams i (omega (arith, one-count))));
-        time = λ i. below-or i (t .class) (one-time i) (λ g. s .past .no-time i g ∙ sym (s′ .past .no-time i (omega (arith, one-count))));
-        rows = one-row;
-      }
+      -- two answers of `classes_of`
+      pub one-answer : Sized t → Sized t′ → Tabled table → Tabled table′ → (t ≡ t′) × (table ≡ table′)
+      one-answer l l′ m m′ = (
+        tally-one l l′
+            one-count
+            (c .classed ∙ sym (c′ .classed))
+            (λ k q. below-or k (S .doses) (λ h. c .no-rest k h ∙ sym (c′ .no-rest k h)) (λ g. s .past .no-rest k g q ∙ sym (s′ .past .no-rest k g q)))
+            (λ k q. below-or k (S .doses) (one-number k) (λ g. s .past .no-number k g q ∙ sym (s′ .past .no-number k g q)))
+            (λ i q. below-or i (t .class) (one-grams i) (λ g. s .past .no-grams i g ∙ sym (s′ .past .no-grams i (omega (arith, one-count)))))
+            (λ i q. below-or i (t .class) (one-time i) (λ g. s .past .no-time i g ∙ sym (s′ .past .no-time i (omega (arith, one-count))))),
+        table-one m m′ (λ i j q r. one-row i j r),
+      )
 
   -- ---- refusal 9
 

@@ -1,2 +1,3 @@
 pub mod Phase
 pub mod Answer
+pub mod Sequence
