@@ -97,10 +97,14 @@ pub record Leads (plan : List ℕ) (p : ℕ) : Type 0 where
   pub classes : (i : ℕ) → i < p → kindAt plan i ≡ 0x43
   pub stops : p < length plan / 32 → kindAt plan p ≡ 0x43 → ⊥
 
--- every dose below 24 that has a slot up to record e has the class number of one of its slots
+-- the class number that the last slot of dose k names, of n slots from record p on; 0 where none is its own
+unfoldable pub numberOf : List ℕ → ℕ → ℕ → ℕ → ℕ
+numberOf plan p k zero = 0
+numberOf plan p k (suc n) = pick (eqb (slotIn plan (p + n) .dose) k) (slotIn plan (p + n) .class) (numberOf plan p k n)
+
+-- every dose below 24 has its number, by the slots from record p up to record e
 pub record Numbers (plan : List ℕ) (p e : ℕ) (numbers : List ℕ) : Type 0 where
-  pub named : (i : ℕ) → i < e → p ≤ i → slotIn plan i .dose < 24
-      → (l : ℕ) × (l < e) × (p ≤ l) × (slotIn plan l .dose ≡ slotIn plan i .dose) × (slotIn plan l .class ≡ getD numbers (slotIn plan i .dose) 0)
+  pub each : (k : ℕ) → k < 24 → getD numbers k 0 ≡ numberOf plan p k (e - p)
 
 -- ---- clauses
 

@@ -32,6 +32,7 @@ use Rattle.judge.proofs.Rows.{gather-at, noClass, plan-class, plan-leng
 use Rattle.slots.proofs.Places.{place-at, tick-before, tick-from}
 use Rattle.judge.proofs.Sheets.{instants-up, same-grams, same-size, same-time}
 use Rattle.judge.proofs.Certified.{in-set}
+use Rattle.judge.proofs.Naming.{numbers-named}
 
 -- ---- the interval of a slot
 
@@ -144,7 +145,7 @@ module _ (o : Order) (fit : Fit o) (h : Sheet) (sh : SheetOf o h) (b : List ℕ)
   number-of : (k : ℕ) → k < S .doses → (c : ℕ) × (c < q) × T (D c k) × (getD N k 0 ≡ c + 1)
   number-of k kn =
       let r = has-slot k kn in
-      let w = num .named (r .0) (r .1) (r .2) (omega (arith, r .3, fit .few)) in
+      let w = numbers-named num (r .0) (r .1) (r .2) (omega (arith, r .3, fit .few)) in
       let n = named (w .0) (w .1) (w .2) in
       let same : slotIn b (w .0) .dose ≡ k = w .3 ∙ r .3 in
       (n .class, n .known, rw same at (n .member), ap (λ (d : ℕ). getD N d 0) (sym (r .3)) ∙ sym (w .4) ∙ n .number)

@@ -1,19 +1,49 @@
--- The class numbers of the doses, slot by slot.
-use mathlib.Core.Path.{_≡_, _∙_, ap, subst, sym}
-use mathlib.Core.Logic.{_≢_, inl, inr}
+-- The class numbers of the doses, slot by slot. Assumes nothing.
+use mathlib.Core.Path.{_≡_, _∙_, ap, refl, subst, sym}
+use mathlib.Core.Logic.{_≢_}
 use mathlib.Core.List.{List}
-use Prim.Native.Nat.{ℕ, _+_, _<_, _≤_}
-use native.Mathlib.Nat.{eq-or-lt-of-le}
+use Prim.Native.Nat.{ℕ, zero, suc, _+_, _-_, _<_, _≤_}
 use native.Mathlib.Omega.{arith}
-use lib.ListN.{getD}
+use borrow.Author.Tests.{eq-eqb, ne-eqb}
+use lib.Dec.{eqb}
+use lib.ListN.{length, getD, getD-replicate, replicate}
+use Rattle.model.specs.Records.{pick}
 use Rattle.model.specs.Plans as plans
-use Rattle.model.proofs.Fractions.{compare≤}
+use Rattle.steps.proofs.Tests.{alike}
+use Rattle.steps.proofs.Arrays.{filled-one}
 use Rattle.plan_records.specs.declared.Slot.{Slot}
 use Rattle.plan_records.specs.Held.{asSlot}
-use Rattle.clauses.specs.Tests.{Numbers, slotIn}
+use Rattle.clauses.specs.Tests.{Numbers, numberOf, slotIn}
 
-pub numbers-none : (b : List ℕ) (p : ℕ) (N : List ℕ) → Numbers b p p N
-numbers-none b p N = record { named = λ i l g d. absurd (omega arith) }
+-- ---- the number of one dose
+
+module _ (b : List ℕ) (p k : ℕ) where
+  number-none : numberOf b p k (p - p) ≡ 0
+  unfolding numberOf
+  number-none = ap (numberOf b p k) (let e : p - p ≡ 0 = omega arith in e)
+
+  -- slot i is the next behind those from record p on
+  number-next : (i : ℕ) → p ≤ i → numberOf b p k (i + 1 - p) ≡ pick (eqb (slotIn b i .dose) k) (slotIn b i .class) (numberOf b p k (i - p))
+  unfolding numberOf
+  number-next i g =
+      ap (numberOf b p k) (let e : i + 1 - p ≡ suc (i - p) = omega arith in e)
+      ∙ ap (λ (l : ℕ). pick (eqb (slotIn b l .dose) k) (slotIn b l .class) (numberOf b p k (i - p))) (let e : p + (i - p) ≡ i = omega arith in e)
+
+  -- a dose with a slot has the number of one of its slots
+  number-named : (n i : ℕ) → i < n → slotIn b (p + i) .dose ≡ k
+      → (l : ℕ) × (l < n) × (slotIn b (p + l) .dose ≡ k) × (slotIn b (p + l) .class ≡ numberOf b p k n)
+  unfolding numberOf
+  number-named zero i h e = absurd (omega arith)
+  number-named (suc n) i h e = alike (slotIn b (p + n) .dose) k
+      (λ same. (n, omega arith, same, rw (eq-eqb (slotIn b (p + n) .dose) k same)))
+      (λ other.
+      let w = number-named n i (alike i n (λ z. absurd (other (ap (λ (l : ℕ). slotIn b (p + l) .dose) (sym z) ∙ e))) (λ z. omega arith)) e in
+      (w .0, omega (arith, w .1), w .2, rw (ne-eqb (slotIn b (p + n) .dose) k other) (w .3)))
+
+-- ---- the numbers of all
+
+pub numbers-none : (b : List ℕ) (p : ℕ) → Numbers b p p (replicate 24 0)
+numbers-none b p = record { each = λ k h. getD-replicate 24 k 0 0 h ∙ sym (number-none b p k) }
 
 pub numbers-to : {b : List ℕ} {p i e : ℕ} {N : List ℕ} → i ≡ e → Numbers b p i N → Numbers b p e N
 numbers-to {b} {p} {i} {e} {N} q n = subst (λ (x : ℕ). Numbers b p x N) q n
@@ -21,7 +51,7 @@ numbers-to {b} {p} {i} {e} {N} q n = subst (λ (x : ℕ). Numbers b p x N) q n
 -- one slot more
 pub numbers-more : (b : List ℕ) (p i : ℕ) (N N′ : List ℕ) (s : Slot) → asSlot s ≡ slotIn b i → Numbers b p i N
     → (s .dose < 24 → getD N′ (s .dose) 0 ≡ s .class) → ((k : ℕ) → k ≢ s .dose → getD N′ k 0 ≡ getD N k 0) → p ≤ i → Numbers b p (i + 1) N′
-numbers-more b p i N N′ s e n own others pi = record { named = λ l q g d. go l q g d }
+numbers-more b p i N N′ s e n own others g = record { each = λ k h. each k h ∙ sym (number-next b p k i g) }
   where
     dose : slotIn b i .dose ≡ s .dose
     dose = ap (λ (x : plans.Slot). x .dose) (sym e)
@@ -29,20 +59,18 @@ numbers-more b p i N N′ s e n own others pi = record { named = λ l q g d. go 
     class : slotIn b i .class ≡ s .class
     class = ap (λ (x : plans.Slot). x .class) (sym e)
 
-    here : (l : ℕ) → slotIn b l .dose ≡ s .dose → slotIn b l .dose < 24
-        → (k : ℕ) × (k < i + 1) × (p ≤ k) × (slotIn b k .dose ≡ slotIn b l .dose) × (slotIn b k .class ≡ getD N′ (slotIn b l .dose) 0)
-    here l x d = (i, omega arith, pi, dose ∙ sym x, class ∙ sym (own (omega arith)) ∙ ap (λ (k : ℕ). getD N′ k 0) (sym x))
+    each : (k : ℕ) → k < 24 → getD N′ k 0 ≡ pick (eqb (slotIn b i .dose) k) (slotIn b i .class) (numberOf b p k (i - p))
+    each k h = alike k (s .dose)
+        (λ same. rw (eq-eqb (slotIn b i .dose) k (dose ∙ sym same)) (ap (λ (d : ℕ). getD N′ d 0) same ∙ own (omega arith) ∙ sym class))
+        (λ other. rw (ne-eqb (slotIn b i .dose) k (λ z. other (sym z ∙ dose))) (others k other ∙ n .each k h))
 
-    go : (l : ℕ) → l < i + 1 → p ≤ l → slotIn b l .dose < 24
-        → (k : ℕ) × (k < i + 1) × (p ≤ k) × (slotIn b k .dose ≡ slotIn b l .dose) × (slotIn b k .class ≡ getD N′ (slotIn b l .dose) 0)
-    go l q g d = elim (compare≤ (slotIn b l .dose) (s .dose)) [
-      | inl x ↦ elim (eq-or-lt-of-le x) [ inl y ↦ here l y d | inr y ↦ before l q g d (λ z. omega arith) ]
-      | inr x ↦ before l q g d (λ z. omega arith)
-    ]
-      where
-        before : (l : ℕ) → l < i + 1 → p ≤ l → slotIn b l .dose < 24 → slotIn b l .dose ≢ s .dose
-            → (k : ℕ) × (k < i + 1) × (p ≤ k) × (slotIn b k .dose ≡ slotIn b l .dose) × (slotIn b k .class ≡ getD N′ (slotIn b l .dose) 0)
-        before l q g d ne = elim (eq-or-lt-of-le {n = l} {m = i} (omega arith)) [
-          | inl y ↦ absurd (ne (ap (λ (k : ℕ). slotIn b k .dose) y ∙ dose))
-          | inr y ↦ let r = n .named l y g d in (r .0, omega (arith, r .1), r .2, r .3, r .4 ∙ sym (others (slotIn b l .dose) ne))
-        ]
+-- every dose that has a slot has the class number of one of its slots
+pub numbers-named : {b : List ℕ} {p e : ℕ} {N : List ℕ} → Numbers b p e N → (i : ℕ) → i < e → p ≤ i → slotIn b i .dose < 24
+    → (l : ℕ) × (l < e) × (p ≤ l) × (slotIn b l .dose ≡ slotIn b i .dose) × (slotIn b l .class ≡ getD N (slotIn b i .dose) 0)
+numbers-named {b} {p} {e} n i h g d =
+    let w = number-named b p (slotIn b i .dose) (e - p) (i - p) (omega arith) (ap (λ (l : ℕ). slotIn b l .dose) (let z : p + (i - p) ≡ i = omega arith in z)) in
+    (p + w .0, omega (arith, w .1), omega arith, w .2, w .3 ∙ sym (n .each (slotIn b i .dose) d))
+
+-- two answers of `numbers_of` are one array
+pub numbers-one : {b : List ℕ} {p e : ℕ} {N N′ : List ℕ} → length N ≡ 24 → length N′ ≡ 24 → Numbers b p e N → Numbers b p e N′ → N ≡ N′
+numbers-one l l′ n m = filled-one 0 24 l l′ (n .each) (m .each)
