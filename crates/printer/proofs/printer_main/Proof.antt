@@ -1,21 +1,24 @@
--- `main` meets its contract: the text's length that `print` gives back lies within the text buffer.
+-- `printer_main` meets its contract: the lengths that `read_order` and `print` give back lie within their buffers.
 use mathlib.Core.Path.{sym}
 use lib.Seq.{length-take-le}
 use borrow.Author.Needs.{needs}
-use Rattle.printer.proofs.main.Statement.{statement}
-use Rattle.printer.proofs.main.Tie as tie
+use Rattle.printer.proofs.printer_main.Statement.{statement}
+use Rattle.printer.proofs.printer_main.Tie as tie
+
+slice-aggregate-read-order : tie.Need-slice-aggregate-read-order
+slice-aggregate-read-order c = search needs
+
+read-order-requires : tie.Need-read-order-requires
+read-order-requires c κs = search needs
+
+returns : tie.Need-returns
+returns c = search needs
 
 plan-buffer-requires : tie.Need-plan-buffer-requires
 plan-buffer-requires c κs = search needs
 
 text-buffer-requires : tie.Need-text-buffer-requires
 text-buffer-requires c κs = search needs
-
-slice-aggregate-read-full : tie.Need-slice-aggregate-read-full
-slice-aggregate-read-full c = search needs
-
-read-full-requires : tie.Need-read-full-requires
-read-full-requires c κs = search needs
 
 array-share-prefix-order : tie.Need-array-share-prefix-order
 array-share-prefix-order c = search needs
@@ -33,7 +36,7 @@ print-requires : tie.Need-print-requires
 print-requires c κs = search needs
 
 array-share-prefix-text : tie.Need-array-share-prefix-text
-array-share-prefix-text c = c .before .before .print .ensures .inside
+array-share-prefix-text c = search needs
 
 slice-aggregate-write-all : tie.Need-slice-aggregate-write-all
 slice-aggregate-write-all c = sym (length-take-le _ _ (c .before .before .before .print .ensures .inside))
@@ -41,17 +44,24 @@ slice-aggregate-write-all c = sym (length-take-le _ _ (c .before .before .before
 write-all-requires : tie.Need-write-all-requires
 write-all-requires c κs = search needs
 
-returns : tie.Need-returns
-returns c = search needs
+returns-2 : tie.Need-returns-2
+returns-2 c = search needs
 
-pub main-spec : {M : Type 1} → statement M
-main-spec =
+returns-3 : tie.Need-returns-3
+returns-3 c = search needs
+
+returns-4 : tie.Need-returns-4
+returns-4 c = search needs
+
+pub printer-main-spec : {M : Type 1} → statement M
+printer-main-spec =
     tie.close
     (tie.spec
+    slice-aggregate-read-order
+    read-order-requires
+    returns
     plan-buffer-requires
     text-buffer-requires
-    slice-aggregate-read-full
-    read-full-requires
     array-share-prefix-order
     slice-aggregate-print
     slice-aggregate-print-2
@@ -60,4 +70,6 @@ main-spec =
     array-share-prefix-text
     slice-aggregate-write-all
     write-all-requires
-    returns)
+    returns-2
+    returns-3
+    returns-4)
