@@ -1,8 +1,13 @@
-// Points of P1 and P2 at the ticks that document 01 names, and the refusals 10, 11 and 12 at their edges.
+// Points of P1 and P2 at the ticks that document 01 names, and the refusals 10, 11 and 12 at their edges; then pens that are lent and moved on.
+use draw::Drawn;
+use draw::Pen;
+use draw::Point;
 use draw::State;
 use libc::STDOUT_FILENO;
 ghost use Prim.Native.Nat.{_+_, _≤_};
 ghost use lib.ListN.{length};
+ghost use Rattle.model.specs.Answers.{Moves};
+ghost use Rattle.draw.specs.Drawing.{asDrawn, asPen};
 
 fn word(text: &[u8]) {
     io::write_all(STDOUT_FILENO, text);
@@ -74,14 +79,46 @@ fn show_state(s: State) {
     }
 }
 
+// Amount, state.
+fn show_point(p: Point) {
+    number(p.amount);
+    let s = p.state;
+    show_state(s);
+}
+
 // Number, amount, state.
 fn show(order: &[u8], plan: &[u8], dose: usize, tick: u32) {
     let d = draw::point_at(order, plan, dose, tick);
     number(d.number);
     let p = d.point;
-    number(p.amount);
-    let s = p.state;
-    show_state(s);
+    show_point(p);
+}
+
+// A pen that was lent, and what it drew.
+struct Returned {
+    pen: Pen,
+    drawn: Drawn,
+}
+
+// "The pen is lent and moved on by one tick".
+fn lend(order: &[u8], plan: &[u8], pen: Pen) -> Returned
+    ensures { λ r. ⌜ Moves (now (order .entry)) (now (plan .entry)) (asPen pen) (asDrawn (r .drawn)) (asPen (r .pen)) ⌝ }
+{
+    let mut lent = pen;
+    let drawn = draw::advance(order, plan, &mut lent);
+    Returned { pen: lent, drawn }
+}
+
+// A pen's step: number, the pen's tick behind it, amount, state. Gives back the pen.
+fn step(order: &[u8], plan: &[u8], pen: Pen) -> Pen {
+    let r = lend(order, plan, pen);
+    let d = r.drawn;
+    number(d.number);
+    let after = r.pen;
+    number(after.tick);
+    let p = d.point;
+    show_point(p);
+    after
 }
 
 // P1: one fan; [0,10) 20, [0,4) 16.
@@ -143,6 +180,31 @@ fn second_points(b: &[u8; 128], p: &[u8; 160]) {
     show(b, p, 1, 3);
 }
 
+// Dose 0 of P1 from tick 2 on: Idle until its slot starts at 4.
+fn steps(b: &[u8; 96], p: &[u8; 128]) {
+    let at2 = Pen { dose: 0, tick: 2 };
+    let at3 = step(b, p, at2);
+    let at4 = step(b, p, at3);
+    let at5 = step(b, p, at4);
+    let at6 = step(b, p, at5);
+    step(b, p, at6);
+}
+
+// The last step, and the one that is refused; then a dose that is not there, bytes that are no plan and bytes that are no order: the pen stays.
+fn last_steps(b: &[u8; 96], p: &[u8; 128]) {
+    let pen = Pen {
+        dose: 1,
+        tick: 604799,
+    };
+    let last = step(b, p, pen);
+    step(b, p, last);
+    let none = Pen { dose: 2, tick: 5 };
+    step(b, p, none);
+    let early = Pen { dose: 0, tick: 5 };
+    step(b, b, early);
+    step(p, p, early);
+}
+
 fn main() {
     let mut b = [0u8; 96];
     first_order(&mut b);
@@ -158,4 +220,7 @@ fn main() {
     second_points(&c, &q);
     word(b"edges\n");
     edges(&b, &p);
+    word(b"pens\n");
+    steps(&b, &p);
+    last_steps(&b, &p);
 }
