@@ -228,12 +228,13 @@ fn clashes() {
 
 fn heads() {
     word(b"no F, two F\n");
-    let mut b = [0u8; 64];
-    put_fans(&mut b, 0, 1, 1, 1);
-    put_fans(&mut b, 32, 2, 2, 2);
-    show(&b);
-    put_dose(&mut b, 0, 1, 0, 5, 10);
-    show_front(&b, 32);
+    let mut none = [0u8; 32];
+    put_dose(&mut none, 0, 1, 0, 5, 10);
+    show(&none);
+    let mut two = [0u8; 64];
+    put_fans(&mut two, 0, 1, 1, 1);
+    put_fans(&mut two, 32, 2, 2, 2);
+    show(&two);
 }
 
 fn first_clash() {
