@@ -157,5 +157,7 @@ int main(int count, char **words)
         status = planning ? write_file(given, words[3]) : drawing ? draw(order, given, dose) : judge(order, given);
     free(given.at);
     free(order.at);
+    if (fflush(stdout) != 0 || ferror(stdout))
+        leave("can't write ", "standard output");
     return status;
 }
