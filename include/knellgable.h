@@ -2,7 +2,11 @@
  *
  * The four functions of libknellgable.a. An order is any bytes, and so is a plan: the caller checks nothing beforehand, and every call gets
  * one answer. Each function reads only the bytes it is lent, keeps none of them, allocates nothing and holds no state: calls on different
- * memory may run at the same time. A length of 0 may come with any pointer.
+ * memory may run at the same time. A call takes under 64 KiB of stack (measured, not proved: docs/BENCHMARKS.md).
+ *
+ * What the caller answers for: so many bytes as the length says may be read at each pointer, and written at a planning's `plan`; a length of 0
+ * may come with any pointer, also a null one. A planning's `plan` and its `order` must not overlap. A pen's `tick` must point to a number that
+ * may be read and written, and overlap neither `order` nor `plan`.
  *
  * Records are 32 bytes, numbers least significant byte first, bytes not named zero:
  *   F 0x46  1 fans; 4-7 top grams; 8-11 top seconds

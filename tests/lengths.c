@@ -1,0 +1,33 @@
+/* Lengths of 0 with null pointers, of an order and of a plan. Exits 1 at the first answer that is not the header's. */
+#include "knellgable.h"
+#include <stdio.h>
+
+static int wrong(const char *what, uint32_t number)
+{
+    fprintf(stderr, "lengths: %s answers %u\n", what, number);
+    return 1;
+}
+
+int main(void)
+{
+    static const uint8_t fans[32] = {0x46, 1, [4] = 1, [8] = 1};
+    static uint8_t room[KNELLGABLE_PLAN_ROOM];
+    uint32_t number, tick = 7;
+    if ((number = knellgable_plan(NULL, 0, room, sizeof room).number) != 6)
+        return wrong("planning no bytes", number);
+    if ((number = knellgable_plan(NULL, 0, NULL, 0).number) != 1)
+        return wrong("planning into no bytes", number);
+    if ((number = knellgable_plan(fans, sizeof fans, room, sizeof room).number) != 0)
+        return wrong("planning no doses", number);
+    if ((number = knellgable_judge(NULL, 0, NULL, 0).number) != 6)
+        return wrong("judging for no bytes", number);
+    if ((number = knellgable_judge(fans, sizeof fans, NULL, 0).number) != 0)
+        return wrong("judging an empty plan", number);
+    if ((number = knellgable_point(fans, sizeof fans, NULL, 0, 0, 0).number) != 11)
+        return wrong("drawing in an empty plan", number);
+    if ((number = knellgable_advance(NULL, 0, NULL, 0, 0, &tick).number) != 6 || tick != 7)
+        return wrong("a pen for no bytes", number);
+    if ((number = knellgable_advance(fans, sizeof fans, NULL, 0, 0, &tick).number) != 11 || tick != 7)
+        return wrong("a pen in an empty plan", number);
+    return 0;
+}
