@@ -19,6 +19,8 @@ const GLPK_ORDERS: usize = 10;
 /// Orders of each kind whose stacks are looked at.
 const STACK_ORDERS: usize = 300;
 const STACK: usize = 64 << 10;
+/// Milliseconds of planning a hard order that would be a relapse. Set after the first measurements: a mark to watch, and no aim.
+const RELAPSE: f64 = 50.0;
 /// Where the summary lines of long comparisons are kept.
 const LONG_RUNS: &str = "second/long-run.txt";
 
@@ -27,11 +29,11 @@ const SIDES: &[&dyn Peer] = &[&crate::library::Library, &OWN_FLOW];
 #[cfg(not(feature = "library"))]
 const SIDES: &[&dyn Peer] = &[&OWN_FLOW];
 
-/// Something asked, and what was measured of it.
+/// An aim of the project, set before it was first measured, and what was measured of it.
 struct Figure {
-    asked: &'static str,
+    aim: &'static str,
     measured: String,
-    met: bool,
+    reached: bool,
 }
 
 /// A table's head: the given columns, then one for each side.
@@ -100,57 +102,63 @@ fn stack_table(text: &mut String, r: &mut Random) -> [usize; 4] {
     all[0]
 }
 
-/// What was asked of the library, from the times at 24 doses and its stacks.
+/// The aims, from the library's times at 24 doses and its stacks.
 fn figures(kinds: &[Vec<Times>], used: [usize; 4]) -> Vec<Figure> {
     let [library, second] = &kinds[0][..] else { return Vec::new() };
     let plan = library.entries[0];
     let (beside, part, fallen) = (plan / second.entries[0], library.entries[1] / plan, library.entries[4] / plan);
-    let (hard, spread) = (kinds[2][0].slowest / 1_000.0, kinds[1][0].slowest / 1_000.0);
     let mut list = vec![
         Figure {
-            asked: "planning random orders of 24 doses: at most 1.5 times the second program's flow",
+            aim: "planning random orders of 24 doses: at most 1.5 times the second program's flow",
             measured: format!("{beside:.2} times"),
-            met: beside <= 1.5,
+            reached: beside <= 1.5,
         },
         Figure {
-            asked: "planning hard orders of 24 doses: bounded, at most 50 milliseconds",
-            measured: format!("hard sample {hard:.1}, slowest of the spread orders {spread:.1}"),
-            met: hard.max(spread) <= 50.0,
-        },
-        Figure {
-            asked: "judging a plan that stands: at most a quarter of planning",
+            aim: "judging a plan that stands: at most a quarter of planning",
             measured: format!("{part:.3}, where it falls {fallen:.2}"),
-            met: part <= 0.25,
+            reached: part <= 0.25,
         },
-        Figure { asked: "judging a plan that stands, the aim: a tenth of planning", measured: format!("{part:.3}"), met: part <= 0.1 },
+        Figure { aim: "judging a plan that stands, better: a tenth of planning", measured: format!("{part:.3}"), reached: part <= 0.1 },
         Figure {
-            asked: "a point: at most 20 microseconds beyond judging the same bytes",
+            aim: "a point: at most 20 microseconds beyond judging the same bytes",
             measured: format!("{:.1} beyond, {:.1} in all", library.beyond, library.entries[2]),
-            met: library.beyond <= 20.0,
+            reached: library.beyond <= 20.0,
         },
     ];
-    let asked =
+    let aims =
         ["plan: under 64 KiB of stack", "judge: under 64 KiB of stack", "point: under 64 KiB of stack", "pen step: under 64 KiB of stack"];
-    list.extend(asked.into_iter().zip(used).map(|(asked, used)| Figure { asked, measured: format!("{used} bytes"), met: used < STACK }));
+    list.extend(aims.into_iter().zip(used).map(|(aim, used)| Figure { aim, measured: format!("{used} bytes"), reached: used < STACK }));
     list
 }
 
-fn asked(text: &mut String, list: &[Figure]) {
-    *text += "| asked | measured | met |\n|---|---|---|\n";
+fn aims(text: &mut String, list: &[Figure]) {
+    *text += "| aim | measured | reached |\n|---|---|---|\n";
     for f in list {
-        writeln!(text, "| {} | {} | {} |", f.asked, f.measured, if f.met { "yes" } else { "no" }).unwrap();
+        writeln!(text, "| {} | {} | {} |", f.aim, f.measured, if f.reached { "yes" } else { "no" }).unwrap();
     }
-    if list.iter().any(|f| !f.met) {
-        *text += "\nWhy a figure is missed stands in `docs/DECISIONS.md`.\n";
+    if list.iter().any(|f| !f.reached) {
+        *text += "\nWhy an aim is missed stands in `docs/DECISIONS.md`.\n";
     }
+}
+
+/// Hard orders are watched: no aim in numbers was set for them.
+fn watched(text: &mut String, kinds: &[Vec<Times>]) {
+    let (hard, spread) = (kinds[2][0].slowest / 1_000.0, kinds[1][0].slowest / 1_000.0);
+    let relapse = if hard.max(spread) > RELAPSE { " This is a relapse." } else { "" };
+    writeln!(
+        text,
+        "\nWatched, and no aim: planning hard orders of 24 doses took {hard:.1} milliseconds on the hard sample, and {spread:.1} on the slowest of \
+         the spread orders. Over {RELAPSE:.0} would be a relapse; that mark was set after the first measurements.{relapse}"
+    )
+    .unwrap();
 }
 
 /// How the times are taken, and of what.
 const TIMES: &str = "
 This page is written whole by `second bench` (see `second/README.md`). Times are microseconds. Each call is warmed once and timed TIMED times, \
-and the figure is the median over COUNT orders. Random: windows and grams anywhere in the week, 1 to 8 fans. Spread: every release in the first \
-half of the week, every deadline in the second, which makes the longest chains. Hard: the first doses of `samples/hard.order`. The sides take \
-turns, order by order, in one run. The second program is built without overflow checks and finds classes and shares by its flow. The plan \
+which gives its median, and the figure is the median of these over COUNT orders. Random: windows and grams anywhere in the week, 1 to 8 fans. \
+Spread: every release in the first half of the week, every deadline in the second, which makes the longest chains. Hard: the first doses of \
+`samples/hard.order`, one order at each size. The sides take turns, order by order, in one run. The second program is built without overflow checks and finds classes and shares by its flow. The plan \
 buffer is not cleared between calls.
 
 glpk (`glpsol` of Debian's glpk-utils) is given a part of planning only: the classes are known, and it finds the shares of all classes as one \
@@ -161,10 +169,23 @@ run on a program of one variable, in turn; so it counts reading the program and 
 orders. glpk counts in floats.
 ";
 
+const GROWN: &str = "
+The median, and in brackets the slowest order. The times are taken as above, later in the same run. The random and spread orders are others than \
+those above, so their medians differ by chance; the hard ones are the same orders, timed again, and differ by what else the machine did.
+
+";
+
 const STACKS: &str = "
 The deepest use in bytes: the stack is painted, the call made, and the paint looked at, less what a call takes that answers at once. Over STACKED \
 random and spread orders of 24 doses, the hard sample, and as many orders of every style; judging and drawing with the planner's plan and \
 with one that lacks its last record, for which the classes are computed.
+
+";
+
+const AIMS: &str = "
+The aims are the project's own, set before the first page was measured; document 01 names no figure. Reading the bytes is taken as judging them: \
+a point checks 2 to 10 first, by its definition. Where a plan falls, judging computes the classes, to tell 9 from 10. How each aim is read, and \
+what another reading would miss, stands in `docs/DECISIONS.md`.
 
 ";
 
@@ -174,7 +195,8 @@ fn page(count: usize) -> String {
     text += &TIMES.replace("TIMED", &TIMED.to_string()).replace("COUNT", &count.to_string());
     text += "\n## Times\n\n";
     let last = times(&mut text, count, &mut r);
-    text += "\n## How planning grows with the doses\n\nThe median, and in brackets the slowest order.\n\n";
+    text += "\n## How planning grows with the doses\n";
+    text += GROWN;
     growth(&mut text, count, &mut r);
     text += "\nThe chains are those that the second program's flow pushes for the shares of an order, without the search for classes.\n";
     text += "\n## Searches for chains in the library\n\nCounted by `tests/chains`, for classes and shares; a search pushes one chain or finds none.\n\n";
@@ -182,9 +204,10 @@ fn page(count: usize) -> String {
     text += "\n## Stack\n";
     text += &STACKS.replace("STACKED", &STACK_ORDERS.to_string());
     let used = stack_table(&mut text, &mut r);
-    text += "\n## Asked and measured\n\nReading the bytes is taken as judging them: a point checks 2 to 10 first, by its definition. Where a plan falls, judging computes the \
-classes, to tell 9 from 10. What another reading would miss stands in `docs/DECISIONS.md`.\n\n";
-    asked(&mut text, &figures(&last, used));
+    text += "\n## Aims and measurements\n";
+    text += AIMS;
+    aims(&mut text, &figures(&last, used));
+    watched(&mut text, &last);
     text += "\n## Random cases\n\nThe last lines of `second compare` and of `tests/sanitized`, kept in `second/long-run.txt`:\n\n";
     match std::fs::read_to_string(LONG_RUNS) {
         Ok(runs) => runs.lines().for_each(|line| writeln!(text, "- {line}").unwrap()),
