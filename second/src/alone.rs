@@ -147,7 +147,7 @@ fn places(house: &House, slots: &[Slot], r: &mut Random) -> Found {
 pub fn each(house: &House, plan: &[u8], slots: &[Slot], r: &mut Random) -> Found {
     if slots.is_empty() {
         let mut record = slot_record(&Slot { fan: 1, dose: 0, start: (0, 0), end: (1, 0), grams: 1, time: 1, class: 1 });
-        put(&mut record, 0, 1, u32::from(r.pick(&[b'S', b'S', b'C'])));
+        put(&mut record, 0, 1, u32::from(r.pick(b"SSC")));
         let name = if record[0] == b'S' { "no such class" } else { "zero byte" };
         return vec![(name, record.to_vec()), ("length", vec![0]), ("kind", vec![0; RECORD])];
     }

@@ -88,7 +88,10 @@ impl Checks<'_> {
     }
 }
 
-const GROUPS: [(&str, fn(&mut Checks)); 11] = [
+/// A name, and the checks behind it.
+type Group = (&'static str, fn(&mut Checks));
+
+const GROUPS: [Group; 11] = [
     ("planning: P1 to P12", cases::proved),
     ("planning: the run line", cases::run_line),
     ("refusals: 1 to 9, each alone", refusals::alone),

@@ -66,7 +66,7 @@ pub fn broken(house: &House, plan: &[u8]) -> Vec<Broken> {
     let slots: Vec<Slot> = of_kind(b'S').map(slot_of).collect();
     let first_slot = records.iter().position(|r| r[0] == b'S').unwrap_or(records.len());
     let mut found = vec![
-        ("length", plan.len() % RECORD != 0),
+        ("length", !plan.len().is_multiple_of(RECORD)),
         ("kind", records.iter().any(|r| !b"CS".contains(&r[0]))),
         ("zero byte", heads.iter().any(|r| !zero(r, 12, 32)) || of_kind(b'S').any(|r| !zero(r, 29, 32))),
         ("class after slot", records[first_slot..].iter().any(|r| r[0] == b'C')),

@@ -37,11 +37,11 @@ impl Slot {
 /// Lays the shares of all classes, interval by interval, class by class, fan by fan.
 pub fn wrap(spans: &Intervals, classes: &[Class], shares: &[Shares]) -> Vec<Slot> {
     let mut slots = Vec::new();
-    for j in 0..spans.count() {
+    for (j, ends) in spans.instants.windows(2).enumerate() {
         let mut lowest = 0;
         for (i, class) in classes.iter().enumerate() {
-            let cut = spans.length(j) * class.grams;
-            let base = u64::from(spans.instants[j]) * class.grams;
+            let cut = u64::from(ends[1] - ends[0]) * class.grams;
+            let base = u64::from(ends[0]) * class.grams;
             let mut at = 0;
             for (k, &share) in shares[i][j].iter().enumerate() {
                 let end = at + share;

@@ -48,7 +48,7 @@ fn between(low: u32, x: u32, high: u32) -> bool {
 /// Reads an order: 2, then record by record 3, 4, 5, then 6, 7, 8.
 pub fn read(bytes: &[u8]) -> Result<Order, Refusal> {
     let refuse = |number, place: usize| Err(Refusal { number, place: place as u32 });
-    if bytes.len() % RECORD != 0 || bytes.len() > LONGEST_ORDER {
+    if !bytes.len().is_multiple_of(RECORD) || bytes.len() > LONGEST_ORDER {
         return refuse(2, 0);
     }
     let mut fans = Vec::new();

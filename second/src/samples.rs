@@ -10,8 +10,11 @@ use std::path::Path;
 
 const HARD: &[u8] = include_bytes!("../../samples/hard.order");
 
-/// A day of a house: bay, release and deadline as hour and minute, grams.
-const DAY: [(u32, (u32, u32), (u32, u32), u32); 24] = [
+/// Hour and minute.
+type Clock = (u32, u32);
+
+/// A day of a house: bay, release, deadline, grams.
+const DAY: [(u32, Clock, Clock, u32); 24] = [
     (101, (5, 30), (6, 15), 1_800),
     (102, (5, 30), (6, 15), 1_800),
     (103, (5, 45), (7, 0), 2_400),
@@ -39,7 +42,7 @@ const DAY: [(u32, (u32, u32), (u32, u32), u32); 24] = [
 ];
 
 fn house() -> Order {
-    let seconds = |(h, m): (u32, u32)| h * 3_600 + m * 60;
+    let seconds = |(h, m): Clock| h * 3_600 + m * 60;
     let dose = |&(bay, from, to, grams): &_| Dose { bay, release: seconds(from), deadline: seconds(to), grams };
     Order { fans: 8, top_grams: 7, top_seconds: 2, doses: DAY.iter().map(dose).collect() }
 }

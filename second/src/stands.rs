@@ -88,7 +88,7 @@ fn apart(mut own: Vec<&Slot>) -> bool {
 
 /// The slots of a plan that stands, or the clause it breaks.
 pub fn stands(order: &Order, spans: &Intervals, classes: &[Class], plan: &[u8]) -> Result<Vec<Slot>, Broken> {
-    if plan.len() % RECORD != 0 {
+    if !plan.len().is_multiple_of(RECORD) {
         return Err("length");
     }
     let mut seen = 0;
