@@ -9,7 +9,7 @@ use borrow.Author.Tests.{ne-eqb}
 use lib.Dec.{T, eqb}
 use lib.ListN.{length, drop}
 use Rattle.model.specs.Sets.{Doses}
-use Rattle.model.specs.Records.{pick, read, refused}
+use Rattle.model.specs.Records.{pick, refused}
 use Rattle.model.specs.Orders.{Order, readOrder}
 use Rattle.model.specs.Lists.{gather}
 use Rattle.model.specs.Classes.{Setting, Row, P, Classes, free, reserved, classP}
@@ -220,6 +220,13 @@ module _ (o : Order) (p : ℕ) (C C′ : ℕ → Doses) (c : Classes (settingOf 
     pub plan-settled : planBytes o p C x ≡ planBytes o p C′ x′
     plan-settled = ap₂ (λ (l : List Class) (m : List Slot). recordsBytes (planOf l m)) classes-settled same-slots
 
+-- two sequences of classes have one count, and so the same C records
+pub classes-alike : (o : Order) (p p′ : ℕ) (C C′ : ℕ → Doses) → Classes (settingOf o) (fansPresent o) p C → Classes (settingOf o) (fansPresent o) p′ C′
+    → classesOf o p C ≡ classesOf o p′ C′
+classes-alike o p p′ C C′ c c′ =
+    let same = count-unique (settingOf o) (fansPresent o) p p′ C C′ c c′ in
+    classes-settled o p C C′ c (subst (λ (p : ℕ). Classes (settingOf o) (fansPresent o) p C′) (sym same) c′) ∙ ap (λ (p : ℕ). classesOf o p C′) same
+
 -- two plannings of an order into one buffer agree on the answer, the classes and their records, which stand in front
 pub record Agree (before : List ℕ) (r r′ : Planned) (after after′ : List ℕ) : Type 0 where
   pub answer : r .answer ≡ r′ .answer
@@ -274,13 +281,10 @@ plans-agree (Plans.plans w o g p C c x v) (Plans.refuses w′ b q) = absurd (ref
 plans-agree {before = before} (Plans.plans w o g p C c x v) (Plans.plans w′ o′ g′ p′ C′ c′ x′ v′) =
     let same-o = one-order g′ g in
     let c″ : Classes (settingOf o) (fansPresent o) p′ C′ = subst (λ (o : Order). Classes (settingOf o) (fansPresent o) p′ C′) same-o c′ in
-    let same-p = count-unique (settingOf o) (fansPresent o) p p′ C C′ c c″ in
-    let c‴ : Classes (settingOf o) (fansPresent o) p C′ = subst (λ (p : ℕ). Classes (settingOf o) (fansPresent o) p C′) (sym same-p) c″ in
-    let front : classesOf o′ p′ C′ ≡ classesOf o p C =
-    ap₂ (λ (o : Order) (p : ℕ). classesOf o p C′) same-o (sym same-p) ∙ sym (classes-settled o p C C′ c c‴) in
+    let front : classesOf o′ p′ C′ ≡ classesOf o p C = ap (λ (o : Order). classesOf o p′ C′) same-o ∙ sym (classes-alike o p p′ C C′ c c″) in
     record {
       answer = refl;
-      classes = same-p;
+      classes = count-unique (settingOf o) (fansPresent o) p p′ C C′ c c″;
       front = classesOf o p C;
       counted = length-singles p (classAt o p C);
       rest = back before (classesOf o p C) (slotsOf o p C x);

@@ -43,6 +43,7 @@ pub mod Refusing
 pub mod SplitSlot
 pub mod Planning
 pub mod Answers
+pub mod Decided
 pub mod Bays
 pub mod Demand2
 pub mod Demand2OfAnswers
