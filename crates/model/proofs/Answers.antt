@@ -145,10 +145,11 @@ pen-draws (Moves.at-end o g h l w) = Draws.too-late o g h l (omega arith)
 pen-draws (Moves.moves o g h l w) = Draws.draws o g h l (omega arith)
 
 -- the answer tells where the pen is: a tick on where it is 0, and where it was with any other
-abbrev penAfter : Pen → Drawn → Pen
+abbrev pub penAfter : Pen → Drawn → Pen
 penAfter pen x = pick (eqb (x .answer .number) 0) (record { dose = pen .dose; tick = pen .tick + 1 }) pen
 
-pen-goes : {order plan : List ℕ} {pen : Pen} {x : Drawn} {to : Pen} → Moves order plan pen x to → to ≡ penAfter pen x
+-- it is there
+pub pen-goes : {order plan : List ℕ} {pen : Pen} {x : Drawn} {to : Pen} → Moves order plan pen x to → to ≡ penAfter pen x
 pen-goes (Moves.refuses a j n) = rw (ne-eqb (a .number) 0 n)
 pen-goes (Moves.no-dose o g h l) = refl
 pen-goes (Moves.at-end o g h l w) = refl
@@ -209,7 +210,7 @@ module _ (o : Order) (p : ℕ) (C C′ : ℕ → Doses) (c : Classes (settingOf 
         let below = sum-congr i (λ h q. same-reserved h (omega arith) j) in
         λ t. record { start = instantAt o j; len = S .len j; grams = grams t; time = time t; class = i + 1; below = below t }
 
-    same-slots : slotsOf o p C x ≡ slotsOf o p C′ x′
+    pub same-slots : slotsOf o p C x ≡ slotsOf o p C′ x′
     unfolding tableSlots intervalSlots laneSlots
     same-slots =
         gather-congr (S .intervals) _ _ (λ j q. gather-congr p _ _ (λ i l.
@@ -217,6 +218,7 @@ module _ (o : Order) (p : ℕ) (C C′ : ℕ → Doses) (c : Classes (settingOf 
         (line-congr _ (S .doses) (λ k. x i k j) (λ k. x′ i k j) (λ k r. same i k j l r q)
         ∙ ap (λ (w : Lane). line (w .len * w .grams) (λ k. x′ i k j) (S .doses)) (same-lane i j l))))
 
+    -- and every byte of the plan
     pub plan-settled : planBytes o p C x ≡ planBytes o p C′ x′
     plan-settled = ap₂ (λ (l : List Class) (m : List Slot). recordsBytes (planOf l m)) classes-settled same-slots
 

@@ -133,6 +133,13 @@ module _ (r : List ℕ) (i : ℕ) where
   row-refuses number (range (OutOfRange.in-dose e b u)) =
       rw (ne-eqb (getD r 0 0) 0x46 (λ f. omega arith), eq-eqb (getD r 0 0) 0x44 e, is-true (blankAt doseParts r 0) b, is-false (doseFits (doseOf r)) u)
 
+  -- record i is refused exactly when its row says, with its index
+  pub record-exactly : (number place : ℕ) → (entryOf r i ≡ refused number place) ↔ (RecordRow r number × (place ≡ i))
+  record-exactly number place = (
+    refusal-says _ AtRecord (entryOf r i) entry-says number place,
+    λ row. row-refuses number (row .0) ∙ ap (λ (k : ℕ). refused number k) (sym (row .1)),
+  )
+
 -- ---- 8
 
 -- the test of two doses
@@ -358,3 +365,13 @@ row-number (wrong-record n i r (range f)) = (omega arith, omega arith)
 row-number (not-one-fans es g h) = (omega arith, omega arith)
 row-number (many-doses es g one h) = (omega arith, omega arith)
 row-number (overlapping es g one few i o none) = (omega arith, omega arith)
+
+-- "else 0"
+pub row-place : {order : List ℕ} {number place : ℕ} → Given order number place → number ≢ 3 → number ≢ 4 → number ≢ 5 → number ≢ 8 → place ≡ 0
+row-place (wrong-length w) a b c d = refl
+row-place (wrong-record n i r (kind k)) a b c d = absurd (a refl)
+row-place (wrong-record n i r (blank k)) a b c d = absurd (b refl)
+row-place (wrong-record n i r (range k)) a b c d = absurd (c refl)
+row-place (not-one-fans es g h) a b c d = refl
+row-place (many-doses es g one h) a b c d = refl
+row-place (overlapping es g one few i o none) a b c d = absurd (d refl)

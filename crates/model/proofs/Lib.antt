@@ -47,4 +47,7 @@ pub mod Decided
 pub mod Bays
 pub mod Demand2
 pub mod Demand2OfAnswers
+pub mod EveryCall
+pub mod Rows
+pub mod Demand1
 pub mod Demand3

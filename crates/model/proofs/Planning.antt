@@ -1,14 +1,15 @@
 -- What planning an accepted order leaves in its buffer: a plan that stands, of as many records as are counted.
-use mathlib.Core.Path.{_≡_, refl, subst}
+use mathlib.Core.Path.{_∙_, _≡_, ap, refl, subst, sym}
 use mathlib.Core.List.{List}
-use Prim.Native.Nat.{ℕ, _+_, _*_, _≤_}
+use Prim.Native.Nat.{ℕ, _+_, _*_, _-_, _≤_}
 use native.Mathlib.Omega.{arith}
-use lib.ListN.{length}
+use lib.ListN.{drop, getD, length, length-append, length-drop, take}
+use lib.Seq.{getD-append-add, getD-drop, take-append-seam}
 use Rattle.model.specs.Orders.{Order}
 use Rattle.model.specs.Stands.{Stands}
 use Rattle.model.specs.Answers.{Accepts, Planned, Plans, done, no-room, overwritten, planBytes, planRoom, plans, refuses}
 use Rattle.model.proofs.Orders.{read-fits}
-use Rattle.model.proofs.Planner.{plan-length, plan-stands}
+use Rattle.model.proofs.Planner.{plan-length, plan-room, plan-stands}
 use Rattle.model.proofs.ValidShares.{classes-of, shares-of}
 use Rattle.model.proofs.Refusing.{refused-names}
 
@@ -47,3 +48,48 @@ planned order before o a room r after (plans l o′ a′ p C c x v) =
       finished = refl;
       counted = plan-length o′ fit p C c x v;
     }
+
+-- ---- the bytes of the buffer
+
+module _ (before plan : List ℕ) where
+  -- the plan stands in front
+  front-overwritten : take (length plan) (overwritten before plan) ≡ plan
+  front-overwritten = take-append-seam plan (drop (length plan) before)
+
+  -- as many bytes as before
+  length-overwritten : length plan ≤ length before → length (overwritten before plan) ≡ length before
+  length-overwritten h = omega (arith, length-append plan (drop (length plan) before), length-drop (length plan) before)
+
+  -- those behind the plan as before
+  behind-overwritten : (i : ℕ) → length plan ≤ i → getD (overwritten before plan) i 0 ≡ getD before i 0
+  behind-overwritten i h =
+      let n = length plan in
+      let on : n + (i - n) ≡ i = omega arith in
+      let seam : getD (overwritten before plan) (n + (i - n)) 0 ≡ getD before (n + (i - n)) 0 =
+      getD-append-add plan (drop n before) (i - n) 0 ∙ getD-drop n before (i - n) 0 in
+      rw on at seam
+
+-- "success changes only the plan's own records", and a refusal, which has none, no byte
+pub record Kept (before after : List ℕ) (r : Planned) : Type 0 where
+  pub as-long : length after ≡ length before
+  pub behind : (i : ℕ) → 32 * (r .classes + r .slots) ≤ i → getD after i 0 ≡ getD before i 0
+
+pub kept : {order before : List ℕ} {r : Planned} {after : List ℕ} → Plans order before r after → Kept before after r
+kept (no-room small) = record { as-long = refl; behind = λ i l. refl }
+kept (refuses l b refuse) = record { as-long = refl; behind = λ i l. refl }
+kept {order} {before} (plans l o a p C c x v) =
+    let fit = read-fits order o (a .reads) in
+    record {
+      as-long = length-overwritten before (planBytes o p C x) (omega (arith, plan-room o fit p C c x v));
+      behind = λ i q. behind-overwritten before (planBytes o p C x) i (omega (arith, plan-length o fit p C c x v));
+    }
+
+-- the first records of the buffer are a plan that stands
+pub plan-in-front : (order before : List ℕ) (o : Order) → Accepts order o → planRoom ≤ length before → (r : Planned) (after : List ℕ) → Plans order before r after
+    → Stands o (take (32 * (r .classes + r .slots)) after)
+plan-in-front order before o a room r after h =
+    let left = planned order before o a room r after h in
+    let plan = left .plan in
+    let front : take (32 * (r .classes + r .slots)) after ≡ plan =
+    ap (λ (n : ℕ). take n after) (sym (left .counted)) ∙ ap (take (length plan)) (left .bytes) ∙ front-overwritten before plan in
+    subst (λ (b : List ℕ). Stands o b) (sym front) (left .stands)

@@ -1,0 +1,172 @@
+-- Demand 1, sentence by sentence: over the answers of planning, judging, drawing and the pen, for any bytes, doses and ticks whatever. Assumes nothing.
+use mathlib.Core.Logic.{_≢_, _⊎_, inl, inr}
+use mathlib.Core.Path.{_∙_, _≡_, ap, refl}
+use mathlib.Core.List.{List}
+use Prim.Native.Nat.{ℕ, _+_, _*_, _≤_, _<_}
+use native.Mathlib.Omega.{arith}
+use borrow.Author.Tests.{ne-eqb}
+use lib.ListN.{getD, length, take}
+use Rattle.model.specs.Sets.{Doses}
+use Rattle.model.specs.Orders.{Order}
+use Rattle.model.specs.Classes.{Classes}
+use Rattle.model.specs.Intervals.{fansPresent, settingOf}
+use Rattle.model.specs.Layout.{slotsOf}
+use Rattle.model.specs.Stands.{Stands}
+use Rattle.model.specs.Line.{shut}
+use Rattle.model.specs.Answers.{Accepts, Answer, Drawn, Draws, Judges, Moves, Pen, Planned, Plans, planBytes}
+use Rattle.model.proofs.Answers.{Agree, drawn-order, draws-one, judged-order, judges-one, moves-one, pen-draws, pen-goes, plan-settled, plans-agree, refuses-number, same-slots}
+use Rattle.model.proofs.EveryCall.{draws-some, judges-some, moves-some, plans-some}
+use Rattle.model.proofs.Rows.{DrawingRow, GivenExactly, JudgingRow, OnlyMeant, PlanningRow, drawing-given, judging-given, order-meant, planning-given, planning-meant}
+use Rattle.model.proofs.Planning.{kept, plan-in-front}
+
+-- ---- "Every order, plan, dose number and second gets an answer; the caller checks nothing beforehand."
+
+-- planning any order into any buffer
+pub planning-answers : (order before : List ℕ) → (r : Planned) × (after : List ℕ) × Plans order before r after
+planning-answers = plans-some
+
+-- judging any plan for any order
+pub judging-answers : (order plan : List ℕ) → (a : Answer) × Judges order plan a
+judging-answers = judges-some
+
+-- drawing any dose number at any second
+pub drawing-answers : (order plan : List ℕ) (d t : ℕ) → (x : Drawn) × Draws order plan d t x
+drawing-answers = draws-some
+
+-- moving any pen
+pub pen-answers : (order plan : List ℕ) (pen : Pen) → (x : Drawn) × (to : Pen) × Moves order plan pen x to
+pen-answers = moves-some
+
+-- ---- one answer: "Equality of any two answers allowed by a promise is proved; the shares are the listed exception."
+
+-- one verdict
+pub one-verdict : {order plan : List ℕ} {a b : Answer} → Judges order plan a → Judges order plan b → a ≡ b
+one-verdict = judges-one
+
+-- one point
+pub one-point : {order plan : List ℕ} {d t : ℕ} {x y : Drawn} → Draws order plan d t x → Draws order plan d t y → x ≡ y
+one-point = draws-one
+
+-- one move of the pen
+pub one-move : {order plan : List ℕ} {pen : Pen} {x y : Drawn} {to to′ : Pen} → Moves order plan pen x to → Moves order plan pen y to′ → (x ≡ y) × (to ≡ to′)
+one-move = moves-one
+
+-- one answer of planning: number, place, set, W, P, the count of classes and their records; and the whole buffer where it is refused
+pub one-plan : {order before : List ℕ} {r r′ : Planned} {after after′ : List ℕ} → Plans order before r after → Plans order before r′ after′
+    → Agree before r r′ after after′
+one-plan = plans-agree
+
+-- and where the shares are the same, one count of slots and one plan, byte for byte
+pub one-plan-of-the-shares : (o : Order) (p : ℕ) (C C′ : ℕ → Doses) → Classes (settingOf o) (fansPresent o) p C → Classes (settingOf o) (fansPresent o) p C′
+    → (x x′ : ℕ → ℕ → ℕ → ℕ) → ((i k j : ℕ) → i < p → k < settingOf o .doses → j < settingOf o .intervals → x i k j ≡ x′ i k j)
+    → (length (slotsOf o p C x) ≡ length (slotsOf o p C′ x′)) × (planBytes o p C x ≡ planBytes o p C′ x′)
+one-plan-of-the-shares o p C C′ c c′ x x′ same = (ap length (same-slots o p C C′ c c′ x x′ same), plan-settled o p C C′ c c′ x x′ same)
+
+-- ---- "A refusal is one of the numbered ones": of planning 1 to 9, of judging 2 to 10, of drawing and the pen 2 to 12
+
+-- planning answers 0 to 9
+pub planning-numbers : {order before : List ℕ} {r : Planned} {after : List ℕ} → Plans order before r after → r .answer .number ≤ 9
+planning-numbers (Plans.no-room s) = omega arith
+planning-numbers (Plans.refuses w a q) = refuses-number q .1
+planning-numbers (Plans.plans w o g p C c x v) = omega arith
+
+-- judging answers 0, or 2 to 10
+pub judging-numbers : {order plan : List ℕ} {a : Answer} → Judges order plan a → (a .number ≡ 0) ⊎ ((2 ≤ a .number) × (a .number ≤ 10))
+judging-numbers (Judges.refuses a q) = let n = refuses-number q in inr (n .0, omega (arith, n))
+judging-numbers (Judges.falls o g h) = inr (omega arith, omega arith)
+judging-numbers (Judges.stands o g h) = inl refl
+
+-- drawing answers 0, or 2 to 12
+pub drawing-numbers : {order plan : List ℕ} {d t : ℕ} {x : Drawn} → Draws order plan d t x
+    → (x .answer .number ≡ 0) ⊎ ((2 ≤ x .answer .number) × (x .answer .number ≤ 12))
+drawing-numbers (Draws.refuses a j n) = elim (judging-numbers j) [ inl z ↦ inl z | inr m ↦ inr (m .0, omega (arith, m)) ]
+drawing-numbers (Draws.no-dose o g h l) = inr (omega arith, omega arith)
+drawing-numbers (Draws.too-late o g h l w) = inr (omega arith, omega arith)
+drawing-numbers (Draws.draws o g h l w) = inl refl
+
+-- and so does the pen
+pub pen-numbers : {order plan : List ℕ} {pen : Pen} {x : Drawn} {to : Pen} → Moves order plan pen x to
+    → (x .answer .number ≡ 0) ⊎ ((2 ≤ x .answer .number) × (x .answer .number ≤ 12))
+pen-numbers h = drawing-numbers (pen-draws h)
+
+-- ---- "given exactly when": the answer has a number and a place exactly when their row of the table says
+
+-- planning, rows 0 to 9
+pub planning-exactly : {order before : List ℕ} {r : Planned} {after : List ℕ} → Plans order before r after → GivenExactly (r .answer) (PlanningRow order before)
+planning-exactly = planning-given
+
+-- judging, rows 0 and 2 to 10
+pub judging-exactly : {order plan : List ℕ} {a : Answer} → Judges order plan a → GivenExactly a (JudgingRow order plan)
+judging-exactly = judging-given
+
+-- drawing, rows 0 and 2 to 12
+pub drawing-exactly : {order plan : List ℕ} {d t : ℕ} {x : Drawn} → Draws order plan d t x → GivenExactly (x .answer) (DrawingRow order plan d t)
+drawing-exactly = drawing-given
+
+-- the pen, as a drawing at its next tick: 12 where the pen is "already at or past 604,800"
+pub pen-exactly : {order plan : List ℕ} {pen : Pen} {x : Drawn} {to : Pen} → Moves order plan pen x to
+    → GivenExactly (x .answer) (DrawingRow order plan (pen .dose) (pen .tick + 1))
+pen-exactly h = drawing-given (pen-draws h)
+
+-- ---- "Fields not meant are 0, and a state not meant is Shut."
+
+-- planning: place, set, W and P; and the counts, which only success has
+pub planning-fields : {order before : List ℕ} {r : Planned} {after : List ℕ} → Plans order before r after
+    → OnlyMeant (r .answer) × (r .answer .number ≢ 0 → (r .classes ≡ 0) × (r .slots ≡ 0))
+planning-fields h = (planning-meant h, counts h)
+  where
+    counts : {order before : List ℕ} {r : Planned} {after : List ℕ} → Plans order before r after → r .answer .number ≢ 0 → (r .classes ≡ 0) × (r .slots ≡ 0)
+    counts (Plans.no-room s) n = (refl, refl)
+    counts (Plans.refuses w a q) n = (refl, refl)
+    counts (Plans.plans w o g p C c x v) n = absurd (n refl)
+
+-- judging: place, set, W and P
+pub judging-fields : {order plan : List ℕ} {a : Answer} → Judges order plan a → OnlyMeant a
+judging-fields h = order-meant (judged-order h)
+
+-- drawing: these, and the point
+pub drawing-fields : {order plan : List ℕ} {d t : ℕ} {x : Drawn} → Draws order plan d t x
+    → OnlyMeant (x .answer) × (x .answer .number ≢ 0 → (x .point .amount ≡ 0) × (x .point .state ≡ shut))
+drawing-fields h = (order-meant (drawn-order h), point h)
+  where
+    point : {order plan : List ℕ} {d t : ℕ} {x : Drawn} → Draws order plan d t x → x .answer .number ≢ 0 → (x .point .amount ≡ 0) × (x .point .state ≡ shut)
+    point (Draws.refuses a j n) z = (refl, refl)
+    point (Draws.no-dose o g h l) z = (refl, refl)
+    point (Draws.too-late o g h l w) z = (refl, refl)
+    point (Draws.draws o g h l w) z = absurd (z refl)
+
+-- the pen's answer: as drawing's
+pub pen-fields : {order plan : List ℕ} {pen : Pen} {x : Drawn} {to : Pen} → Moves order plan pen x to
+    → OnlyMeant (x .answer) × (x .answer .number ≢ 0 → (x .point .amount ≡ 0) × (x .point .state ≡ shut))
+pen-fields h = drawing-fields (pen-draws h)
+
+-- ---- "and lent memory is then untouched": "A refusal changes no byte and no pen; success changes only the plan's own records." Planning is lent its
+-- buffer and the pen itself; judging and drawing are lent nothing that an answer could change.
+
+-- a refusal changes no byte
+pub refusal-changes-no-byte : {order before : List ℕ} {r : Planned} {after : List ℕ} → Plans order before r after → r .answer .number ≢ 0 → after ≡ before
+refusal-changes-no-byte (Plans.no-room s) n = refl
+refusal-changes-no-byte (Plans.refuses w a q) n = refl
+refusal-changes-no-byte (Plans.plans w o g p C c x v) n = absurd (n refl)
+
+-- and no pen
+pub refusal-changes-no-pen : {order plan : List ℕ} {pen : Pen} {x : Drawn} {to : Pen} → Moves order plan pen x to → x .answer .number ≢ 0 → to ≡ pen
+refusal-changes-no-pen {x = x} h n = pen-goes h ∙ rw (ne-eqb (x .answer .number) 0 n)
+
+-- success changes only the plan's own records: the buffer is as long as before, and every byte from the last record's end on is as it was
+pub success-changes-its-records : {order before : List ℕ} {r : Planned} {after : List ℕ} → Plans order before r after
+    → (length after ≡ length before) × ((i : ℕ) → 32 * (r .classes + r .slots) ≤ i → getD after i 0 ≡ getD before i 0)
+success-changes-its-records h = let k = kept h in (k .as-long, k .behind)
+
+-- which are the plan
+pub success-leaves-the-plan : {order before : List ℕ} {r : Planned} {after : List ℕ} → Plans order before r after → r .answer .number ≡ 0
+    → (o : Order) × Accepts order o × Stands o (take (32 * (r .classes + r .slots)) after)
+success-leaves-the-plan (Plans.no-room s) z = absurd (omega arith)
+success-leaves-the-plan (Plans.refuses w a q) z = absurd (omega (arith, refuses-number q))
+success-leaves-the-plan {order} {before} {r} {after} (Plans.plans w o g p C c x v) z =
+    (o, g, plan-in-front order before o g w r after (Plans.plans w o g p C c x v))
+
+-- and moves the pen by one tick
+pub success-moves-the-pen : {order plan : List ℕ} {pen : Pen} {x : Drawn} {to : Pen} → Moves order plan pen x to → x .answer .number ≡ 0
+    → to ≡ record { dose = pen .dose; tick = pen .tick + 1 }
+success-moves-the-pen h z = pen-goes h ∙ rw z

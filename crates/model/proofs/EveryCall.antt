@@ -1,0 +1,78 @@
+-- Every call has an answer: an order is refused or accepted, plan bytes stand or not, and what then comes back.
+use mathlib.Core.Logic.{_⊎_, inl, inr}
+use mathlib.Core.Path.{_≡_, refl}
+use mathlib.Core.List.{List}
+use Prim.Native.Nat.{ℕ, _≤_}
+use native.Mathlib.Omega.{arith}
+use lib.ListN.{length}
+use Rattle.model.specs.Records.{Reading, read, refused}
+use Rattle.model.specs.Orders.{Order, readOrder}
+use Rattle.model.specs.Intervals.{settingOf}
+use Rattle.model.specs.Answers.{Accepts, Answer, Drawn, Draws, Judges, Moves, Pen, Planned, Plans, Refuses, done, planRoom, unread, week}
+use Rattle.model.proofs.Fractions.{compare≤}
+use Rattle.model.proofs.Orders.{read-fits}
+use Rattle.model.proofs.ValidShares.{classes-of, shares-of}
+use Rattle.model.proofs.Decided.{dec-stands}
+use Rattle.model.proofs.Answers.{refuses-number}
+use Rattle.model.proofs.Demand2.{accepted-or-refused}
+
+-- an order is accepted or refused
+pub order-decided : (order : List ℕ) → ((o : Order) × Accepts order o) ⊎ ((a : Answer) × Refuses order a)
+order-decided order = go (readOrder order) refl
+  where
+    go : (x : Reading Order) → readOrder order ≡ x → ((o : Order) × Accepts order o) ⊎ ((a : Answer) × Refuses order a)
+    go (read o) e = elim (accepted-or-refused order o e) [ inl a ↦ inl (o, a) | inr r ↦ inr r ]
+    go (refused number place) e = inr (_, unread number place e)
+
+-- an accepted order is planned where there is room
+pub accepted-planned : (order before : List ℕ) → planRoom ≤ length before → (o : Order) → Accepts order o
+    → (r : Planned) × (after : List ℕ) × Plans order before r after × (r .answer ≡ done)
+accepted-planned order before room o g =
+    let c = classes-of o (read-fits order o (g .reads)) in
+    let v = shares-of o (c .0) (c .1) (c .2) in
+    (_, _, Plans.plans room o g (c .0) (c .1) (c .2) (v .0) (v .1), refl)
+
+-- planning
+pub plans-some : (order before : List ℕ) → (r : Planned) × (after : List ℕ) × Plans order before r after
+plans-some order before = elim (compare≤ planRoom (length before)) [
+  | inl room ↦ elim (order-decided order) [
+    | inl a ↦ let r = accepted-planned order before room (a .0) (a .1) in (r .0, r .1, r .2)
+    | inr r ↦ (_, _, Plans.refuses room (r .0) (r .1))
+  ]
+  | inr small ↦ (_, _, Plans.no-room small)
+]
+
+-- judging
+pub judges-some : (order plan : List ℕ) → (a : Answer) × Judges order plan a
+judges-some order plan = elim (order-decided order) [
+  | inl a ↦ elim (dec-stands (a .0) (read-fits order (a .0) (a .1 .reads)) plan) [
+    | yes st ↦ (_, Judges.stands (a .0) (a .1) st)
+    | no h ↦ (_, Judges.falls (a .0) (a .1) h)
+  ]
+  | inr r ↦ (r .0, Judges.refuses (r .0) (r .1))
+]
+
+module _ (order plan : List ℕ) where
+  -- drawing
+  pub draws-some : (d t : ℕ) → (x : Drawn) × Draws order plan d t x
+  draws-some d t = go (judges-some order plan .1)
+    where
+      go : {a : Answer} → Judges order plan a → (x : Drawn) × Draws order plan d t x
+      go (Judges.refuses a r) = (_, Draws.refuses a (Judges.refuses a r) (λ z. omega (arith, refuses-number r)))
+      go (Judges.falls o g h) = (_, Draws.refuses _ (Judges.falls o g h) (omega arith))
+      go (Judges.stands o g h) = elim (compare≤ (settingOf o .doses) d) [
+        | inl l ↦ (_, Draws.no-dose o g h l)
+        | inr l ↦ elim (compare≤ t week) [ inl w ↦ (_, Draws.draws o g h l w) | inr w ↦ (_, Draws.too-late o g h l w) ]
+      ]
+
+  -- the pen
+  pub moves-some : (pen : Pen) → (x : Drawn) × (to : Pen) × Moves order plan pen x to
+  moves-some pen = go (judges-some order plan .1)
+    where
+      go : {a : Answer} → Judges order plan a → (x : Drawn) × (to : Pen) × Moves order plan pen x to
+      go (Judges.refuses a r) = (_, pen, Moves.refuses a (Judges.refuses a r) (λ z. omega (arith, refuses-number r)))
+      go (Judges.falls o g h) = (_, pen, Moves.refuses _ (Judges.falls o g h) (omega arith))
+      go (Judges.stands o g h) = elim (compare≤ (settingOf o .doses) (pen .dose)) [
+        | inl l ↦ (_, pen, Moves.no-dose o g h l)
+        | inr l ↦ elim (compare≤ week (pen .tick)) [ inl w ↦ (_, pen, Moves.at-end o g h l w) | inr w ↦ (_, _, Moves.moves o g h l w) ]
+      ]
