@@ -1,11 +1,10 @@
--- What the answer 0 says: a verdict of 0 is a plan that stands, a drawing of 0 is the point, and a pen that answers 0 has moved. Assumes nothing.
-use mathlib.Core.Logic.{_≢_}
+-- What the answer 0 says: a verdict of 0 is a plan that stands, and a drawing of 0 is the point. Assumes nothing.
 use mathlib.Core.Path.{_≡_, refl}
 use mathlib.Core.List.{List}
-use Prim.Native.Nat.{ℕ, _+_, _<_, _≤_}
+use Prim.Native.Nat.{ℕ, _<_, _≤_}
 use native.Mathlib.Omega.{arith}
 use Rattle.model.specs.Intervals.{settingOf}
-use Rattle.model.specs.Answers.{Answer, Drawn, Draws, Judges, Moves, Pen, at-end, draws, falls, moves, no-dose, pointOf, refuses, stands, too-late, week}
+use Rattle.model.specs.Answers.{Answer, Drawn, Draws, Judges, draws, falls, no-dose, pointOf, refuses, stands, too-late, week}
 use Rattle.draw.specs.Drawing.{Sound}
 use Rattle.model.proofs.Answers.{refuses-number}
 
@@ -34,20 +33,3 @@ drawn-done order plan d t x (draws o acc st l g) e = record {
   in-week = g;
   is = refl;
 }
-
--- ---- one move of a pen
-
--- a pen that moved drew the point at its new tick
-pub moved-drawn : (order plan : List ℕ) (pen : Pen) (x : Drawn) (to : Pen) → Moves order plan pen x to → x .answer .number ≡ 0
-    → Draws order plan (pen .dose) (pen .tick + 1) x × (to ≡ record { dose = pen .dose; tick = pen .tick + 1 })
-moved-drawn order plan pen x to (refuses a j n) e = absurd (n e)
-moved-drawn order plan pen x to (no-dose o acc st l) e = absurd (omega arith)
-moved-drawn order plan pen x to (at-end o acc st l g) e = absurd (omega arith)
-moved-drawn order plan pen x to (moves o acc st l g) e = (draws o acc st l (omega arith), refl)
-
--- a refusal leaves the pen as it was
-pub refused-still : (order plan : List ℕ) (pen : Pen) (x : Drawn) (to : Pen) → Moves order plan pen x to → x .answer .number ≢ 0 → to ≡ pen
-refused-still order plan pen x to (refuses a j n) e = refl
-refused-still order plan pen x to (no-dose o acc st l) e = refl
-refused-still order plan pen x to (at-end o acc st l g) e = refl
-refused-still order plan pen x to (moves o acc st l g) e = absurd (e refl)

@@ -1,4 +1,4 @@
--- Demand 3 over the answers themselves: for all orders, plans, doses and ticks for which drawing answers 0. A pen's answer is a drawing at its new tick (moved-drawn of Answers).
+-- Demand 3 over the answers themselves: for all orders, plans, doses and ticks for which drawing answers 0. A pen's answer is a drawing at its new tick (pen-draws of the model's Answers).
 -- Assumes nothing.
 use mathlib.Core.Logic.{_⊎_}
 use mathlib.Core.Path.{_≡_, sym, ap, _∙_}
