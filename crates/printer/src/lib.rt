@@ -9,7 +9,7 @@ ghost use lib.ListN.{length};
 ghost use Rattle.io.specs.Counts.{Counts};
 ghost use Rattle.lines.specs.Text.{Put};
 ghost use Rattle.plan.specs.Answered.{asPlanned};
-ghost use Rattle.printer.specs.Prints.{answerText, Prints};
+ghost use Rattle.printer.specs.Prints.{answerText, Exits, Prints};
 
 // Room for every plan: 24 classes and 1,457 slots.
 fn plan_buffer() -> [u8; 47392]
@@ -105,7 +105,9 @@ fn print(order: &[u8], plan: &mut [u8], text: &mut [u8]) -> Printed
 // The program's exit status: 0 where it planned, 1 where it printed a refusal, 2 where standard input can't be read or the text can't be
 // written whole.
 #[no_mangle]
-pub extern "C" fn printer_main() -> i32 {
+pub extern "C" fn printer_main() -> i32
+    ensures { λ r. ⌜ Exits r ⌝ }
+{
     let mut order = [0u8; 1601];
     let input = read_order(&mut order);
     if !input.readable {
