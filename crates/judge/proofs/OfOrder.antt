@@ -14,7 +14,7 @@ use Rattle.model.specs.Orders as model
 use Rattle.model.specs.Intervals.{fansPresent, settingOf}
 use Rattle.model.specs.Classes.{P, W, free, remaining, setNumber}
 use Rattle.model.specs.Plans as plans
-use Rattle.model.specs.Answers.{Answer, FirstClass, aboveTop, tooFast}
+use Rattle.model.specs.Answers.{FirstClass, aboveTop}
 use Rattle.model.proofs.Orders.{Fit}
 use Rattle.model.proofs.Sets.{weight-alike}
 use Rattle.model.proofs.FanTime.{P-alike}
@@ -27,7 +27,9 @@ use Rattle.interval.specs.declared.Instants.{Instants}
 use Rattle.interval.specs.Held.{InstantsOf}
 use Rattle.interval.proofs.Laws.{count-is, instant-is}
 use Rattle.clauses.specs.Tests.{Finds, Passes, Sheet, SheetOf, classIn, setsOf, sheet}
-use Rattle.judge.specs.Verdict.{Against, Certifies, Leader, fast, slow}
+use Rattle.judge.specs.Verdict.{Against, Certifies, Leader, fast, fastBy, slow}
+use Rattle.judge.specs.declared.Judged.{Judged}
+use Rattle.judge.specs.declared.Judged.the-variants as is
 use Rattle.clauses.proofs.Tell.{tells-by}
 use Rattle.judge.proofs.Sheets.{same-grams, same-time}
 use Rattle.judge.proofs.Certified.{passes-classes, passes-stands}
@@ -70,7 +72,7 @@ module _ (o : model.Order) (fit : Fit o) (h : Sheet) (sh : SheetOf o h) (plan : 
 
 -- ---- the first class against the top rate
 
-module _ (o : model.Order) (other : Answer) (A : Doses) (f : FirstClass o A) where
+module _ (o : model.Order) (other : Judged) (A : Doses) (f : FirstClass o A) where
   -- any first class is this one
   pub slow-if : W (settingOf o) A * o .topSeconds ≤ P (settingOf o) (fansPresent o) A * o .topGrams → Against o other other
   slow-if l = slow (λ B g t.
@@ -82,13 +84,13 @@ module _ (o : model.Order) (other : Answer) (A : Doses) (f : FirstClass o A) whe
         ap (λ (y : ℕ). y * o .topGrams) (P-alike (settingOf o) (fansPresent o) B A same),
       ))
 
--- an answer 9 for a first class
-pub fast-by : (o : model.Order) (other a : Answer) (A : Doses) → FirstClass o A → T (aboveTop o A) → a ≡ tooFast o A → Against o other a
-fast-by o other a A f t e = rw e (fast A f t)
+-- a verdict 9 for a first class
+pub fast-by : (o : model.Order) (other r : Judged) (A : Doses) → FirstClass o A → T (aboveTop o A) → r ≡ fastBy o A → Against o other r
+fast-by o other r A f t e = rw e (fast A f t)
 
 -- ---- as the plan's first record has it
 
-module _ (o : Order) (other : Answer) (plan : List ℕ) (p : ℕ) (numbers : List ℕ) (leader : Leader (asOrder o) plan p numbers) (l : 0 < p)
+module _ (o : Order) (other : Judged) (plan : List ℕ) (p : ℕ) (numbers : List ℕ) (leader : Leader (asOrder o) plan p numbers) (l : 0 < p)
     (c : plans.Class) (e : c ≡ classIn plan 0) where
   abbrev A : Doses
   A = setsOf numbers 0
@@ -103,7 +105,7 @@ module _ (o : Order) (other : Answer) (plan : List ℕ) (p : ℕ) (numbers : Lis
   leader-slow h = slow-if (asOrder o) other A (leader .first l) (rw (← grams-is, ← time-is, ← top-seconds-is o, ← top-grams-is o) h)
 
   pub leader-fast : (set g t : ℕ) → set ≡ setNumber (o .count) A → g ≡ c .grams → t ≡ c .time → c .time * o .«top_grams» < c .grams * o .«top_seconds»
-      → Against (asOrder o) other (record { number = 9; place = 0; set = set; grams = g; time = t })
+      → Against (asOrder o) other (is.TooFast set g t)
   leader-fast set g t es eg et h =
       fast-by (asOrder o) other _ A (leader .first l)
       (lt→ltb (P (settingOf (asOrder o)) (fansPresent (asOrder o)) A * asOrder o .topGrams) (W (settingOf (asOrder o)) A * asOrder o .topSeconds)

@@ -7,10 +7,10 @@ use lib.Dec.{T}
 use lib.ListN.{length}
 use Rattle.model.specs.Sets.{Doses}
 use Rattle.model.specs.Orders.{Order}
-use Rattle.model.specs.Classes.{W, P}
+use Rattle.model.specs.Classes.{W, P, setNumber}
 use Rattle.model.specs.Intervals.{settingOf, fansPresent}
 use Rattle.model.specs.Stands.{Stands}
-use Rattle.model.specs.Answers.{Answer, FirstClass, aboveTop, done, refusal, tooFast}
+use Rattle.model.specs.Answers.{Answer, FirstClass, Judges, aboveTop, done, refusal}
 use Rattle.clauses.specs.Tests.{Tells, classIn, setsOf}
 use Rattle.judge.specs.declared.Judged.{Judged}
 use Rattle.judge.specs.declared.Judged.the-variants as is
@@ -22,10 +22,28 @@ asAnswer (is.Refused number place) = refusal number place
 asAnswer (is.TooFast set grams time) = record { number = 9; place = 0; set = set; grams = grams; time = time }
 asAnswer is.Falls = refusal 10 0
 
+-- `Refused` carries 2 to 8: 0, 9 and 10 have verdicts of their own
+abbrev pub Numbered : Judged → Type 0
+Numbered is.Stands = Unit {0}
+Numbered (is.Refused number place) = (2 ≤ number) × (number ≤ 8)
+Numbered (is.TooFast set grams time) = Unit {0}
+Numbered is.Falls = Unit {0}
+
+-- r is the verdict on plan bytes for an order
+pub record Verdict (order plan : List ℕ) (r : Judged) : Type 0 where
+  pub answer : Judges order plan (asAnswer r)
+  pub numbered : Numbered r
+
+-- ---- the steps
+
+-- 9 for the set A
+abbrev pub fastBy : Order → Doses → Judged
+fastBy o A = is.TooFast (setNumber (settingOf o .doses) A) (W (settingOf o) A) (P (settingOf o) (fansPresent o) A)
+
 -- 9 where the order's first class is above the top rate, and `other` where it is not
-pub data Against (o : Order) (other : Answer) : Answer → Type 0 where
+pub data Against (o : Order) (other : Judged) : Judged → Type 0 where
   slow : ((A : Doses) → FirstClass o A → T (aboveTop o A) → ⊥) → Against o other other
-  fast : (A : Doses) → FirstClass o A → T (aboveTop o A) → Against o other (tooFast o A)
+  fast : (A : Doses) → FirstClass o A → T (aboveTop o A) → Against o other (fastBy o A)
 
 -- the first of the p classes whose doses have these numbers, as the plan's first record has it
 pub record Leader (o : Order) (plan : List ℕ) (p : ℕ) (numbers : List ℕ) : Type 0 where

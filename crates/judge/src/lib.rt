@@ -7,9 +7,8 @@ use order::Order;
 ghost use Prim.Native.Nat.{_/_, _≤_};
 ghost use lib.ListN.{length};
 ghost use Rattle.model.proofs.Orders.{Fit};
-ghost use Rattle.model.specs.Answers.{Judges};
 ghost use Rattle.order.specs.Held.{asOrder};
-ghost use Rattle.judge.specs.Verdict.{Certifies, asAnswer};
+ghost use Rattle.judge.specs.Verdict.{Certifies, Verdict};
 ghost use Rattle.clauses.specs.Tests.{Tells, RowsPass, Passes, Finds, sheet};
 
 // Whether plan bytes stand, how many C records are in front, and the class number of each dose.
@@ -166,7 +165,7 @@ fn certify(o: Order, plan: &[u8]) -> Found
 
 // "Drawing checks 2 to 9 in the same order, then 10 ..; judging stops after 10." Any bytes, of any length.
 pub fn judge(order: &[u8], plan: &[u8]) -> Judged
-    ensures { λ r. ⌜ Judges (now (order .entry)) (now (plan .entry)) (asAnswer r) ⌝ }
+    ensures { λ r. ⌜ Verdict (now (order .entry)) (now (plan .entry)) r ⌝ }
 {
     let r = order::read_order(order);
     if r.number != 0 {

@@ -9,10 +9,9 @@ ghost use mathlib.Core.Path.{_≡_};
 ghost use Prim.Native.Nat.{_≤_};
 ghost use Rattle.model.proofs.Orders.{Fit};
 ghost use Rattle.model.specs.Classes.{setNumber};
-ghost use Rattle.model.specs.Answers.{done, refusal};
 ghost use Rattle.order.specs.Held.{asOrder};
 ghost use Rattle.clauses.specs.Tests.{setsOf};
-ghost use Rattle.judge.specs.Verdict.{Against, Leader, asAnswer};
+ghost use Rattle.judge.specs.Verdict.{Against, Leader};
 
 // "the first class as a number with bit i for dose i".
 fn first_set(numbers: [u32; 24], doses: usize) -> u64
@@ -33,7 +32,7 @@ fn first_set(numbers: [u32; 24], doses: usize) -> u64
 // A plan that stands names the order's first class in its first record.
 pub fn against_top(o: Order, plan: &[u8], classes: usize, numbers: [u32; 24]) -> Judged
     requires { ⌜ Fit (asOrder o) × Leader (asOrder o) (now plan) classes numbers ⌝ }
-    ensures { λ r. ⌜ Against (asOrder o) done (asAnswer r) ⌝ }
+    ensures { λ r. ⌜ Against (asOrder o) Judged.Stands r ⌝ }
 {
     if classes == 0 {
         return Judged::Stands;
@@ -52,7 +51,7 @@ pub fn against_top(o: Order, plan: &[u8], classes: usize, numbers: [u32; 24]) ->
 // Where the plan does not stand, the classes are worked out to tell 9 from 10.
 pub fn fallen(o: Order) -> Judged
     requires { ⌜ Fit (asOrder o) ⌝ }
-    ensures { λ r. ⌜ Against (asOrder o) (refusal 10 0) (asAnswer r) ⌝ }
+    ensures { λ r. ⌜ Against (asOrder o) Judged.Falls r ⌝ }
 {
     let mut shares = [0u64; 1128];
     let mut table = [[0u8; 47]; 24];

@@ -14,10 +14,10 @@ without-point-requires : tie.Need-without-point-requires
 without-point-requires c κs = search needs
 
 returns : tie.Need-returns
-returns c = draws-refused (c .before .before .before .before .before .before .args .order .now) (c .before .before .before .before .before .before .args .plan .now) (c .before .before .before .before .before .before .args .dose) (c .before .before .before .before .before .before .args .tick) _ (c .before .before .before .judge .ensures) (λ z. c .if1 .taken (ap (λ (d : Drawn). d .answer .number) (c .before .before .without-point .ensures) ∙ z)) _ (c .before .before .without-point .ensures)
+returns c = draws-refused (c .before .before .before .before .before .before .args .order .now) (c .before .before .before .before .before .before .args .plan .now) (c .before .before .before .before .before .before .args .dose) (c .before .before .before .before .before .before .args .tick) _ (c .before .before .before .judge .ensures .answer) (λ z. c .if1 .taken (ap (λ (d : Drawn). d .answer .number) (c .before .before .without-point .ensures) ∙ z)) _ (c .before .before .without-point .ensures)
 
 in-plan-requires : tie.Need-in-plan-requires
-in-plan-requires c κs = judged-sound (c .before .before .before .before .before .before .args .order .now) (c .before .before .before .before .before .before .args .plan .now) _ (c .before .before .before .judge .ensures) (sym (ap (λ (d : Drawn). d .answer .number) (c .before .before .without-point .ensures)) ∙ c .if1 .left)
+in-plan-requires c κs = judged-sound (c .before .before .before .before .before .before .args .order .now) (c .before .before .before .before .before .before .args .plan .now) _ (c .before .before .before .judge .ensures .answer) (sym (ap (λ (d : Drawn). d .answer .number) (c .before .before .without-point .ensures)) ∙ c .if1 .left)
 
 returns-2 : tie.Need-returns-2
 returns-2 c = search needs

@@ -10,7 +10,7 @@ verdict-of-requires : tie.Need-verdict-of-requires
 verdict-of-requires c κs = search needs
 
 returns : tie.Need-returns
-returns c = rw (c .verdict-of .ensures) (c .before .judge .ensures)
+returns c = rw (c .verdict-of .ensures) (c .before .judge .ensures .answer)
 
 pub knellgable-judge-spec : {M : Type 1} → statement M
 knellgable-judge-spec = tie.close (tie.spec judge-requires verdict-of-requires returns)

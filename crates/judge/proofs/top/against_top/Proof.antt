@@ -1,8 +1,8 @@
 -- `against_top` meets its contract: the plan's first record has W and P of the first class (OfOrder).
 use Prim.Native.Nat.{_<_}
-use Rattle.model.specs.Answers.{done}
 use Rattle.plan_records.specs.Held.{asClass}
 use Rattle.judge.specs.Verdict.{slow}
+use Rattle.judge.specs.declared.Judged.the-variants as is
 use Rattle.order.proofs.Fields.{few-doses}
 use Rattle.judge.proofs.OfOrder.{leader-fast, leader-slow}
 use native.Mathlib.Omega.{arith}
@@ -26,7 +26,7 @@ returns-2 : tie.Need-returns-2
 returns-2 c =
     let A = c .before .before .before .before .before .before .args in
     let some : 0 < A .classes = omega (arith, c .before .before .before .before .if1 .left) in
-    leader-slow (A .o) done (A .plan .now) (A .classes) (A .numbers) (c .before .before .before .before .before .before .pre .1) some (asClass (c .before .before .before .class-at .result)) (c .before .before .before .class-at .ensures) (rw (c .before .before .product .ensures, c .before .product2 .ensures) at (c .if2 .taken))
+    leader-slow (A .o) is.Stands (A .plan .now) (A .classes) (A .numbers) (c .before .before .before .before .before .before .pre .1) some (asClass (c .before .before .before .class-at .result)) (c .before .before .before .class-at .ensures) (rw (c .before .before .product .ensures, c .before .product2 .ensures) at (c .if2 .taken))
 
 first-set-requires : tie.Need-first-set-requires
 first-set-requires c κs = few-doses (c .before .before .before .before .before .before .args .o) (c .before .before .before .before .before .before .pre .0)
@@ -41,7 +41,7 @@ returns-3 : tie.Need-returns-3
 returns-3 c =
     let A = c .before .before .before .before .before .before .before .before .before .args in
     let some : 0 < A .classes = omega (arith, c .before .before .before .before .before .before .before .if1 .left) in
-    leader-fast (A .o) done (A .plan .now) (A .classes) (A .numbers) (c .before .before .before .before .before .before .before .before .before .pre .1) some (asClass (c .before .before .before .before .before .before .class-at .result)) (c .before .before .before .before .before .before .class-at .ensures) _ _ _ (c .before .before .first-set .ensures) (c .before .wide .ensures .0) (c .wide2 .ensures .0) (rw (c .before .before .before .before .before .product .ensures, c .before .before .before .before .product2 .ensures) at (c .before .before .before .if2 .left))
+    leader-fast (A .o) is.Stands (A .plan .now) (A .classes) (A .numbers) (c .before .before .before .before .before .before .before .before .before .pre .1) some (asClass (c .before .before .before .before .before .before .class-at .result)) (c .before .before .before .before .before .before .class-at .ensures) _ _ _ (c .before .before .first-set .ensures) (c .before .wide .ensures .0) (c .wide2 .ensures .0) (rw (c .before .before .before .before .before .product .ensures, c .before .before .before .before .product2 .ensures) at (c .before .before .before .if2 .left))
 
 pub against-top-spec : {M : Type 1} → statement M
 against-top-spec =
