@@ -7,11 +7,12 @@ use Rattle.model.specs.Line as line
 use Rattle.model.specs.Answers.{Draws, Moves}
 use Rattle.model.specs.Answers as answers
 use Rattle.model.proofs.Answers.{draws-one, moves-one}
-use Rattle.draw.specs.Drawing.{asDrawn, asPen, asState}
+use Rattle.draw.specs.Drawing.{asDrawn, asPen, asState, penAt}
 use Rattle.draw.specs.declared.State.{State}
 use Rattle.draw.specs.declared.State.the-variants as is
 use Rattle.draw.specs.declared.Drawn.{Drawn}
 use Rattle.draw.specs.declared.Pen.{Pen}
+use Rattle.draw.specs.declared.Moved.{Moved}
 
 -- the structs, from what they say
 unfoldable heldState : line.State → State
@@ -50,6 +51,14 @@ points-once order plan dose tick x y a b = drawn-one x y (draws-one a b)
 
 abbrev heldPen : answers.Pen → Pen
 heldPen p = record { dose = p .dose; tick = p .tick }
+
+-- move_on has one answer for each input
+pub moves-once : (order plan : List ℕ) (dose tick : ℕ) (x y : Moved) → Moves order plan (penAt dose tick) (asDrawn (x .drawn)) (penAt dose (x .tick))
+    → Moves order plan (penAt dose tick) (asDrawn (y .drawn)) (penAt dose (y .tick)) → x ≡ y
+moves-once order plan dose tick x y a b =
+    let e = moves-one a b in
+    let drawn = drawn-one (x .drawn) (y .drawn) (e .0) in
+    λ i. record { tick = e .1 i .tick; drawn = drawn i }
 
 -- advance has one answer for each input, and leaves one pen
 pub pens-once : (order plan : List ℕ) (pen : Pen) (x y : Drawn) (to to′ : Pen) → Moves order plan (asPen pen) (asDrawn x) (asPen to)

@@ -1,35 +1,73 @@
--- Two answers that an exported function's promise allows are the same numbers. Planning's and judging's are the model's (`Answers`).
+-- Two answers that an exported function's promise allows are the same numbers. Two plannings agree as the model's `Answers.plans-agree` says: which
+-- valid shares are used is left open. Assumes nothing.
 use mathlib.Core.Path.{_≡_, sym, ap, _∙_}
 use mathlib.Core.List.{List}
 use Prim.Native.Nat.{ℕ}
-use Rattle.model.specs.Answers.{Pen}
+use Rattle.model.specs.Answers.{Answer, Judges, Pen}
 use Rattle.model.specs.Answers as answers
-use Rattle.model.proofs.Answers.{draws-one, moves-one}
-use Rattle.draw.specs.Drawing.{answerOf}
+use Rattle.model.proofs.Answers.{draws-one, judges-one, moves-one}
+use Rattle.knellgable.specs.declared.Planned.{Planned}
+use Rattle.knellgable.specs.declared.Judged.{Judged}
 use Rattle.knellgable.specs.declared.Drawn.{Drawn}
-use Rattle.knellgable.specs.Exported.{Numbers, DrawsNumbers, MovesNumbers, stateNumber, stateFan}
+use Rattle.knellgable.specs.Exported.{Numbers, DrawsNumbers, MovesNumbers, asJudged, asPlanned, stateNumber, stateFan}
 
--- the same in every number
-pub record Same (r s : Drawn) : Type 0 where
-  pub answer : answerOf (r .number) (r .place) (r .set) (r .grams) (r .time) ≡ answerOf (s .number) (s .place) (s .set) (s .grams) (s .time)
-  pub amount : r .amount ≡ s .amount
-  pub state : r .state ≡ s .state
-  pub fan : r .fan ≡ s .fan
+-- ---- planning and judging
 
-same-numbers : {d e : answers.Drawn} {r s : Drawn} → d ≡ e → Numbers d r → Numbers e s → Same r s
-same-numbers {d} {e} {r} {s} q n m =
-    record {
-      answer = n .answer ∙ ap (λ (d : answers.Drawn). d .answer) q ∙ sym (m .answer);
-      amount = n .amount ∙ ap (λ (d : answers.Drawn). d .point .amount) q ∙ sym (m .amount);
-      state = n .state ∙ ap (λ (d : answers.Drawn). stateNumber (d .point .state)) q ∙ sym (m .state);
-      fan = n .fan ∙ ap (λ (d : answers.Drawn). stateFan (d .point .state)) q ∙ sym (m .fan);
-    }
+abbrev heldPlanned : answers.Planned → Planned
+heldPlanned p = record {
+  number = p .answer .number;
+  place = p .answer .place;
+  set = p .answer .set;
+  grams = p .answer .grams;
+  time = p .answer .time;
+  classes = p .classes;
+  slots = p .slots;
+}
 
-pub points-once : {order plan : List ℕ} {dose tick : ℕ} {r s : Drawn} → DrawsNumbers order plan dose tick r → DrawsNumbers order plan dose tick s → Same r s
+-- numbers that say the same of a planning are the same
+pub planned-one : (r s : Planned) → asPlanned r ≡ asPlanned s → r ≡ s
+planned-one r s e = ap heldPlanned e
+
+abbrev heldJudged : Answer → Judged
+heldJudged a = record { number = a .number; place = a .place; set = a .set; grams = a .grams; time = a .time }
+
+pub verdicts-once : {order plan : List ℕ} (r s : Judged) → Judges order plan (asJudged r) → Judges order plan (asJudged s) → r ≡ s
+verdicts-once r s a b = ap heldJudged (judges-one a b)
+
+-- ---- drawing
+
+abbrev heldDrawn : answers.Drawn → Drawn
+heldDrawn d = record {
+  number = d .answer .number;
+  place = d .answer .place;
+  set = d .answer .set;
+  grams = d .answer .grams;
+  time = d .answer .time;
+  amount = d .point .amount;
+  state = stateNumber (d .point .state);
+  fan = stateFan (d .point .state);
+}
+
+drawn-is : {d : answers.Drawn} {r : Drawn} → Numbers d r → r ≡ heldDrawn d
+drawn-is n = λ i. record {
+  number = n .answer i .number;
+  place = n .answer i .place;
+  set = n .answer i .set;
+  grams = n .answer i .grams;
+  time = n .answer i .time;
+  amount = n .amount i;
+  state = n .state i;
+  fan = n .fan i;
+}
+
+same-numbers : {d e : answers.Drawn} {r s : Drawn} → d ≡ e → Numbers d r → Numbers e s → r ≡ s
+same-numbers q n m = drawn-is n ∙ ap heldDrawn q ∙ sym (drawn-is m)
+
+pub points-once : {order plan : List ℕ} {dose tick : ℕ} {r s : Drawn} → DrawsNumbers order plan dose tick r → DrawsNumbers order plan dose tick s → r ≡ s
 points-once a b = same-numbers (draws-one (a .draws) (b .draws)) (a .numbers) (b .numbers)
 
 pub pens-once : {order plan : List ℕ} {dose tick after after′ : ℕ} {r s : Drawn} → MovesNumbers order plan dose tick r after
-    → MovesNumbers order plan dose tick s after′ → Same r s × (after ≡ after′)
+    → MovesNumbers order plan dose tick s after′ → (r ≡ s) × (after ≡ after′)
 pens-once a b =
     let one = moves-one (a .moves) (b .moves) in
     (same-numbers (one .0) (a .numbers) (b .numbers), ap (λ (p : Pen). p .tick) (one .1))

@@ -15,6 +15,8 @@ use Rattle.model.proofs.Orders.{read-fits}
 use Rattle.model.proofs.Sequence.{count-unique}
 use Rattle.model.proofs.Planner.{plan-length}
 use Rattle.model.proofs.Answers.{one-order, plan-settled, refused-not-accepted, refuses-one}
+use Rattle.plan.specs.declared.Planned as code
+use Rattle.plan.specs.Answered.{asPlanned}
 
 -- "success changes only the plan's own records", and a refusal counts none: past the records counted each byte is as it was
 pub rest-unchanged : {order before after : List ℕ} {r : Planned} → Plans order before r after
@@ -24,6 +26,21 @@ rest-unchanged (refuses l a h) = refl
 rest-unchanged {order} {before} (plans l o a p C c x v) =
     let size = plan-length o (read-fits order o (a .reads)) p C c x v in
     drop-at (planBytes o p C x) (drop (length (planBytes o p C x)) before) _ size ∙ ap (λ (n : ℕ). drop n before) size
+
+-- a struct that says the same is the same
+abbrev heldPlanned : Planned → code.Planned
+heldPlanned p = record {
+  number = p .answer .number;
+  place = p .answer .place;
+  set = p .answer .set;
+  grams = p .answer .grams;
+  time = p .answer .time;
+  classes = p .classes;
+  slots = p .slots;
+}
+
+pub planned-one : (r s : code.Planned) → asPlanned r ≡ asPlanned s → r ≡ s
+planned-one r s e = ap heldPlanned e
 
 -- the shares that an answer was planned with
 unfoldable pub sharesOf : {order before after : List ℕ} {r : Planned} → Plans order before r after → ℕ → ℕ → ℕ → ℕ
