@@ -17,24 +17,24 @@ use Rattle.rounds.specs.Rounds.{NextOf}
 
 module _ (S : Setting) (row : Row) (rest : Doses) {c c′ : Class} {x x′ : List ℕ} (l : length (c .members) ≡ 24) (l′ : length (c′ .members) ≡ 24)
     (m : length (c .reserved) ≡ 47) (m′ : length (c′ .reserved) ≡ 47) (a : NextOf S row rest c x) (b : NextOf S row rest c′ x′) where
-  alike : Alike (S .doses) (setOf (c .members)) (setOf (c′ .members))
-  alike = next-unique S row rest (setOf (c .members)) (setOf (c′ .members)) (a .chosen .next) (b .chosen .next)
+  same-set : Alike (S .doses) (setOf (c .members)) (setOf (c′ .members))
+  same-set = next-unique S row rest (setOf (c .members)) (setOf (c′ .members)) (a .chosen .next) (b .chosen .next)
 
   one-set : c .members ≡ c′ .members
   one-set = places-one false 24 l l′ (λ k q.
-      below-or k (S .doses) (alike k) (λ g. a .chosen .past k g q ∙ sym (b .chosen .past k g q)))
+      below-or k (S .doses) (same-set k) (λ g. a .chosen .past k g q ∙ sym (b .chosen .past k g q)))
 
   one-row : c .reserved ≡ c′ .reserved
   one-row = places-one 0 47 m m′ (λ j q.
       below-or j (S .intervals)
-      (λ h. a .measured .fans j h ∙ openFans-alike S row row _ _ j refl alike ∙ sym (b .measured .fans j h))
+      (λ h. a .measured .fans j h ∙ openFans-alike S row row _ _ j refl same-set ∙ sym (b .measured .fans j h))
       (λ g. a .measured .no-fans j g q ∙ sym (b .measured .no-fans j g q)))
 
   one-grams : c .grams ≡ c′ .grams
-  one-grams = a .measured .grams ∙ weight-alike (S .doses) (S .grams) _ _ alike ∙ sym (b .measured .grams)
+  one-grams = a .measured .grams ∙ weight-alike (S .doses) (S .grams) _ _ same-set ∙ sym (b .measured .grams)
 
   one-time : c .time ≡ c′ .time
-  one-time = a .measured .time ∙ P-alike S row _ _ alike ∙ sym (b .measured .time)
+  one-time = a .measured .time ∙ P-alike S row _ _ same-set ∙ sym (b .measured .time)
 
   pub class-one : c ≡ c′
   class-one = λ i. record { members = one-set i; grams = one-grams i; time = one-time i; reserved = one-row i }
