@@ -15,11 +15,11 @@ use Rattle.model.specs.Orders as orders
 use Rattle.order.specs.declared.Order.{Order}
 use Rattle.order.specs.declared.Fans.{Fans}
 use Rattle.order.specs.declared.Dose.{Dose}
-use Rattle.order.specs.declared.Sheet.{Sheet}
+use Rattle.order.specs.declared.Gathered.{Gathered}
 use Rattle.order.specs.declared.Walked.{Walked}
 use Rattle.order.specs.declared.Reading as code
 use Rattle.order.specs.Held.{asDose, heldFans, heldDose, doseHeld, dosesFrom, dosesHeld, asOrder, column, heldOrder, noOrder, heldReading, asReading, ReadFrom}
-use Rattle.order.specs.Sheets.{noSheet, withDose, withFans, withDoseAt, marked, adding, walkedFrom, settled, refusedReading}
+use Rattle.order.specs.Gathered.{noRecords, withDose, withFans, withDoseAt, marked, adding, walkedFrom, settled, refusedReading}
 use Rattle.order.proofs.Columns.{column-set, column-at, run-all}
 use Rattle.order.proofs.Cases.{picked, at-off, at-on}
 use Rattle.order.proofs.Walks.{Each, reads, refuses, Any, each-read}
@@ -69,15 +69,15 @@ holds-more o ds d h l =
       grams = column-set (λ (d : orders.Dose). d .grams) ds d (h .grams) (h .count) l;
     })
 
--- ---- the sheet's counts, and its fans
+-- ---- the counts gathered, and the fans
 
-heads-add : (es : List orders.Entry) (s : Sheet) (k : ℕ) → adding s k es .heads ≡ s .heads + length (fansIn es)
+heads-add : (es : List orders.Entry) (s : Gathered) (k : ℕ) → adding s k es .heads ≡ s .heads + length (fansIn es)
 unfolding adding fansIn withFans withDoseAt
 heads-add [] s k = omega arith
 heads-add (fansEntry f ∷ es) s k = let h = heads-add es (withFans s (heldFans f)) (suc k) in omega arith
 heads-add (doseEntry d ∷ es) s k = heads-add es (withDoseAt s (heldDose d) k) (suc k)
 
-doses-add : (es : List orders.Entry) (s : Sheet) (k : ℕ) → adding s k es .doses ≡ s .doses + length (dosesIn es)
+doses-add : (es : List orders.Entry) (s : Gathered) (k : ℕ) → adding s k es .doses ≡ s .doses + length (dosesIn es)
 unfolding adding dosesIn withFans withDoseAt
 doses-add [] s k = omega arith
 doses-add (fansEntry f ∷ es) s k = doses-add es (withFans s (heldFans f)) (suc k)
@@ -94,7 +94,7 @@ head-kept : (o : Order) (d : Dose) → headOf (withDose o d) ≡ headOf o
 unfolding withDose
 head-kept o d = picked (λ (n : Order). headOf n ≡ headOf o) (leb 24 (o .count)) _ _ (λ e. refl) (λ e. refl)
 
-head-add : (es : List orders.Entry) (s : Sheet) (k : ℕ) → headOf (adding s k es .order) ≡ last (headOf (s .order)) (fansIn es)
+head-add : (es : List orders.Entry) (s : Gathered) (k : ℕ) → headOf (adding s k es .order) ≡ last (headOf (s .order)) (fansIn es)
 unfolding last adding fansIn withFans withDoseAt
 head-add [] s k = refl
 head-add (fansEntry f ∷ es) s k = head-add es (withFans s (heldFans f)) (suc k)
@@ -115,18 +115,18 @@ mark-none : (o : Order) (d : Dose) (mark k : ℕ) → mark ≡ 0 → clashesAny 
 unfolding marked
 mark-none o d mark k m e = sym (at-on (λ (n : ℕ). n) _ _ (sym (eq-eqb mark 0 m)) (at-off (λ (n : ℕ). n) _ _ (sym e) refl))
 
-mark-stays : (es : List orders.Entry) (s : Sheet) (k p : ℕ) → s .mark ≡ suc p → adding s k es .mark ≡ suc p
+mark-stays : (es : List orders.Entry) (s : Gathered) (k p : ℕ) → s .mark ≡ suc p → adding s k es .mark ≡ suc p
 unfolding adding withFans withDoseAt
 mark-stays [] s k p e = e
 mark-stays (fansEntry f ∷ es) s k p e = mark-stays es (withFans s (heldFans f)) (suc k) p e
 mark-stays (doseEntry d ∷ es) s k p e = mark-stays es (withDoseAt s (heldDose d) k) (suc k) p (mark-kept (s .order) (heldDose d) (s .mark) k p e)
 
--- the sheet agrees with what was found
-abbrev Agrees : Sheet → Reading (List orders.Dose) → Type 0
+-- what was gathered agrees with what was found
+abbrev Agrees : Gathered → Reading (List orders.Dose) → Type 0
 Agrees t (read ds) = (t .mark ≡ 0) × Holds (t .order) ds
 Agrees t (refused n p) = (n ≡ 8) × (t .mark ≡ suc p)
 
-agrees : (es : List orders.Entry) (s : Sheet) (k : ℕ) (ds : List orders.Dose) → Holds (s .order) ds → s .mark ≡ 0
+agrees : (es : List orders.Entry) (s : Gathered) (k : ℕ) (ds : List orders.Dose) → Holds (s .order) ds → s .mark ≡ 0
     → length ds + length (dosesIn es) ≤ 24 → Agrees (adding s k es) (noClash ds k es)
 unfolding adding noClash dosesIn withFans withDoseAt
 agrees [] s k ds h m l = (m, h)
@@ -169,7 +169,7 @@ same-order o f ds e h =
 abbrev done : Order → code.Reading
 done o = record { number = 0; place = 0; order = o }
 
-accepted : (t : Sheet) (x : Reading (List orders.Dose)) (fs : List orders.Fans) → length fs ≡ 1 → headOf (t .order) ≡ last (headOf noOrder) fs → Agrees t x
+accepted : (t : Gathered) (x : Reading (List orders.Dose)) (fs : List orders.Fans) → length fs ≡ 1 → headOf (t .order) ≡ last (headOf noOrder) fs → Agrees t x
     → pick (eqb (t .mark) 0) (done (t .order)) (refusedReading 8 (t .mark - 1)) ≡ heldReading (andThen x (λ ds. read (orderWith fs ds)))
 unfolding heldReading
 accepted t (read ds) fs l e (m, h) =
@@ -191,15 +191,15 @@ checks f d a x p q k = rw (p, q) (go (eqb f 1) (leb d 24) refl refl) where
   go true false e g = refl
   go false u e g = refl
 
-pub settles : (es : List orders.Entry) → settled (adding noSheet 0 es) ≡ heldReading (orderOf es)
-unfolding settled orderOf noSheet
+pub settles : (es : List orders.Entry) → settled (adding noRecords 0 es) ≡ heldReading (orderOf es)
+unfolding settled orderOf noRecords
 settles es =
     checks (length (fansIn es)) (length (dosesIn es)) _ _
-    (heads-add es noSheet 0 ∙ zero-add _)
-    (doses-add es noSheet 0 ∙ zero-add _)
+    (heads-add es noRecords 0 ∙ zero-add _)
+    (doses-add es noRecords 0 ∙ zero-add _)
     (λ l few.
-    accepted (adding noSheet 0 es) (noClash [] 0 es) (fansIn es) l (head-add es noSheet 0)
-    (agrees es noSheet 0 [] (holds-held _) refl (omega arith)))
+    accepted (adding noRecords 0 es) (noClash [] 0 es) (fansIn es) l (head-add es noRecords 0)
+    (agrees es noRecords 0 [] (holds-held _) refl (omega arith)))
 
 -- ---- the answer
 
@@ -242,15 +242,15 @@ was-refused bytes r e z = sym (e .says) ∙ sym (at-off (λ (x : Reading orders.
 -- ---- from the walk to the answer
 
 -- a walk that was refused
-pub walk-refused : {w : Walked} (x : Reading (List orders.Entry)) → w ≡ walkedFrom x 0 noSheet → (w .number ≡ 0 → ⊥)
+pub walk-refused : {w : Walked} (x : Reading (List orders.Entry)) → w ≡ walkedFrom x 0 noRecords → (w .number ≡ 0 → ⊥)
     → refusedReading (w .number) (w .place) ≡ heldReading (andThen x orderOf)
 unfolding walkedFrom heldReading
 walk-refused (read es) e z = absurd (z (ap (λ (w : Walked). w .number) e))
 walk-refused (refused n p) e z = rw e
 
 -- and one that went through
-pub walk-settled : {w : Walked} (x : Reading (List orders.Entry)) → Each Any x → w ≡ walkedFrom x 0 noSheet → w .number ≡ 0
-    → settled (w .sheet) ≡ heldReading (andThen x orderOf)
+pub walk-settled : {w : Walked} (x : Reading (List orders.Entry)) → Each Any x → w ≡ walkedFrom x 0 noRecords → w .number ≡ 0
+    → settled (w .gathered) ≡ heldReading (andThen x orderOf)
 unfolding walkedFrom
 walk-settled (read es) g e z = rw e (settles es)
 walk-settled (refused n p) refuses e z = absurd (let q = sym (ap (λ (w : Walked). w .number) e) ∙ z in let y : ⊥ = omega arith in y)

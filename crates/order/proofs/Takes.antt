@@ -16,9 +16,9 @@ use Rattle.order.specs.declared.Entry.the-variants as is
 use Rattle.order.specs.declared.Fans.{Fans}
 use Rattle.order.specs.declared.Dose.{Dose}
 use Rattle.order.specs.declared.Refusal.{Refusal}
-use Rattle.order.specs.declared.Sheet.{Sheet}
+use Rattle.order.specs.declared.Gathered.{Gathered}
 use Rattle.order.specs.declared.Walked.{Walked}
-use Rattle.order.specs.Sheets.{faultOf, went, noSheet, withFans, withDoseAt, taken, takenOther, takenRefused}
+use Rattle.order.specs.Gathered.{faultOf, went, noRecords, withFans, withDoseAt, taken, takenOther, takenRefused}
 use Rattle.order.proofs.Entry.{the-type}
 
 -- ---- a record of known kind: its fault, or its fields
@@ -41,36 +41,36 @@ faultless false f e k h z = absurd (let y : ⊥ = omega arith in y)
 
 -- ---- taken apart
 
-pub no-refusal : {n : Sheet} (e : Entry) → n ≡ noSheet → OneOf (0 ∷ 1 ∷ []) (tagOf the-type e) → went n ≡ takenRefused e
+pub no-refusal : {n : Gathered} (e : Entry) → n ≡ noRecords → OneOf (0 ∷ 1 ∷ []) (tagOf the-type e) → went n ≡ takenRefused e
 unfolding takenRefused
 no-refusal (is.Fans f) h k = ap went h
 no-refusal (is.Dose d) h k = ap went h
 no-refusal (is.Refused x) h (inl k) = absurd (let z : ⊥ = omega arith in z)
 no-refusal (is.Refused x) h (inr k) = absurd (let z : ⊥ = omega arith in z)
 
-pub refusal : {n : Sheet} {e : Entry} {x : Refusal} → n ≡ noSheet → e ≡ is.Refused x
-    → record { number = x .number; place = x .place; sheet = n } ≡ takenRefused e
+pub refusal : {n : Gathered} {e : Entry} {x : Refusal} → n ≡ noRecords → e ≡ is.Refused x
+    → record { number = x .number; place = x .place; gathered = n } ≡ takenRefused e
 unfolding takenRefused
 refusal h q = rw (h, q)
 
-pub no-fans : {w : Walked} (s : Sheet) (e : Entry) → w ≡ takenRefused e → OneOf (1 ∷ 2 ∷ []) (tagOf the-type e) → w ≡ takenOther s e
+pub no-fans : {w : Walked} (s : Gathered) (e : Entry) → w ≡ takenRefused e → OneOf (1 ∷ 2 ∷ []) (tagOf the-type e) → w ≡ takenOther s e
 unfolding takenOther
 no-fans s (is.Fans f) h (inl k) = absurd (let z : ⊥ = omega arith in z)
 no-fans s (is.Fans f) h (inr k) = absurd (let z : ⊥ = omega arith in z)
 no-fans s (is.Dose d) h k = h
 no-fans s (is.Refused x) h k = h
 
-pub some-fans : {n : Sheet} {e : Entry} {f : Fans} (s : Sheet) → n ≡ withFans s f → e ≡ is.Fans f → went n ≡ takenOther s e
+pub some-fans : {n : Gathered} {e : Entry} {f : Fans} (s : Gathered) → n ≡ withFans s f → e ≡ is.Fans f → went n ≡ takenOther s e
 unfolding takenOther
 some-fans s h q = rw (h, q)
 
-pub no-dose : {w : Walked} (s : Sheet) (k : ℕ) (e : Entry) → w ≡ takenOther s e → OneOf (0 ∷ 2 ∷ []) (tagOf the-type e) → w ≡ taken s k e
+pub no-dose : {w : Walked} (s : Gathered) (k : ℕ) (e : Entry) → w ≡ takenOther s e → OneOf (0 ∷ 2 ∷ []) (tagOf the-type e) → w ≡ taken s k e
 unfolding taken
 no-dose s i (is.Dose d) h (inl k) = absurd (let z : ⊥ = omega arith in z)
 no-dose s i (is.Dose d) h (inr k) = absurd (let z : ⊥ = omega arith in z)
 no-dose s i (is.Fans f) h k = h
 no-dose s i (is.Refused x) h k = h
 
-pub some-dose : {n : Sheet} {e : Entry} {d : Dose} (s : Sheet) (k : ℕ) → n ≡ withDoseAt s d k → e ≡ is.Dose d → went n ≡ taken s k e
+pub some-dose : {n : Gathered} {e : Entry} {d : Dose} (s : Gathered) (k : ℕ) → n ≡ withDoseAt s d k → e ≡ is.Dose d → went n ≡ taken s k e
 unfolding taken
 some-dose s k h q = rw (h, q)

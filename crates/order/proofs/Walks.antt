@@ -16,10 +16,10 @@ use Rattle.order.specs.declared.Entry.{Entry}
 use Rattle.order.specs.declared.Entry.the-variants as is
 use Rattle.order.specs.declared.Order.{Order}
 use Rattle.order.specs.declared.Dose.{Dose}
-use Rattle.order.specs.declared.Sheet.{Sheet}
+use Rattle.order.specs.declared.Gathered.{Gathered}
 use Rattle.order.specs.declared.Walked.{Walked}
 use Rattle.order.specs.Held.{heldEntry, heldOrder}
-use Rattle.order.specs.Sheets.{went, noSheet, withDose, withFans, withDoseAt, taken, takenOther, takenRefused, adding, walkedFrom}
+use Rattle.order.specs.Gathered.{went, noRecords, withDose, withFans, withDoseAt, taken, takenOther, takenRefused, adding, walkedFrom}
 
 -- ---- a refusal has a number
 
@@ -98,9 +98,9 @@ with-few o d h =
     (λ e. let q : o .count < 24 = leb-false 24 (o .count) e in omega arith)
 
 -- a record adds at most one to each count
-pub counts : (s : Sheet) (k : ℕ) (e : Entry) → s .order .count ≤ 24
-    → (taken s k e .sheet .heads ≤ s .heads + 1) × (taken s k e .sheet .doses ≤ s .doses + 1) × (taken s k e .sheet .order .count ≤ 24)
-unfolding taken takenOther takenRefused withFans withDoseAt noSheet heldOrder
+pub counts : (s : Gathered) (k : ℕ) (e : Entry) → s .order .count ≤ 24
+    → (taken s k e .gathered .heads ≤ s .heads + 1) × (taken s k e .gathered .doses ≤ s .doses + 1) × (taken s k e .gathered .order .count ≤ 24)
+unfolding taken takenOther takenRefused withFans withDoseAt noRecords heldOrder
 counts s k (is.Fans f) h = (omega arith, omega arith, omega arith)
 counts s k (is.Dose d) h = (omega arith, omega arith, with-few (s .order) d h)
 counts s k (is.Refused x) h = (omega arith, omega arith, omega arith)
@@ -108,16 +108,16 @@ counts s k (is.Refused x) h = (omega arith, omega arith, omega arith)
 -- ---- a turn of the walk
 
 -- record x, then the rest: a refusal stops the walk
-stops-at : (x : Reading orders.Entry) (rest : Reading (List orders.Entry)) (s : Sheet) (k : ℕ) → (taken s k (heldEntry x) .number ≡ 0 → ⊥)
+stops-at : (x : Reading orders.Entry) (rest : Reading (List orders.Entry)) (s : Gathered) (k : ℕ) → (taken s k (heldEntry x) .number ≡ 0 → ⊥)
     → taken s k (heldEntry x) ≡ walkedFrom (andThen x (λ a. andThen rest (λ l. read (a ∷ l)))) k s
 unfolding taken takenOther takenRefused heldEntry walkedFrom
 stops-at (read (fansEntry f)) rest s k h = absurd (h refl)
 stops-at (read (doseEntry d)) rest s k h = absurd (h refl)
 stops-at (refused n p) rest s k h = refl
 
--- and any other record is added to the sheet
-goes-at : (x : Reading orders.Entry) (rest : Reading (List orders.Entry)) (s : Sheet) (k : ℕ) → Each Any x → taken s k (heldEntry x) .number ≡ 0
-    → walkedFrom rest (suc k) (taken s k (heldEntry x) .sheet) ≡ walkedFrom (andThen x (λ a. andThen rest (λ l. read (a ∷ l)))) k s
+-- and any other record is added to what was gathered
+goes-at : (x : Reading orders.Entry) (rest : Reading (List orders.Entry)) (s : Gathered) (k : ℕ) → Each Any x → taken s k (heldEntry x) .number ≡ 0
+    → walkedFrom rest (suc k) (taken s k (heldEntry x) .gathered) ≡ walkedFrom (andThen x (λ a. andThen rest (λ l. read (a ∷ l)))) k s
 unfolding taken takenOther takenRefused heldEntry walkedFrom adding
 goes-at (read (fansEntry f)) (read l) s k n h = refl
 goes-at (read (fansEntry f)) (refused a b) s k n h = refl
@@ -125,15 +125,15 @@ goes-at (read (doseEntry d)) (read l) s k n h = refl
 goes-at (read (doseEntry d)) (refused a b) s k n h = refl
 goes-at (refused a b) rest s k refuses h = absurd (let z : ⊥ = omega arith in z)
 
-pub stops : {w : Walked} (bytes : List ℕ) (k m : ℕ) (s : Sheet) → 0 < m → w ≡ taken s k (heldEntry (entryOf (recordAt bytes k) k))
+pub stops : {w : Walked} (bytes : List ℕ) (k m : ℕ) (s : Gathered) → 0 < m → w ≡ taken s k (heldEntry (entryOf (recordAt bytes k) k))
     → (w .number ≡ 0 → ⊥) → w ≡ walkedFrom (readFrom entryOf bytes k m) k s
 unfolding readFrom
 stops bytes k zero s h e f = absurd (let z : ⊥ = omega arith in z)
 stops bytes k (suc m) s h e f =
     e ∙ stops-at (entryOf (recordAt bytes k) k) (readFrom entryOf bytes (suc k) m) s k (λ z. f (ap (λ (u : Walked). u .number) e ∙ z))
 
-pub goes : {w : Walked} (bytes : List ℕ) (k m : ℕ) (s : Sheet) → 0 < m → w ≡ taken s k (heldEntry (entryOf (recordAt bytes k) k))
-    → w .number ≡ 0 → walkedFrom (readFrom entryOf bytes (k + 1) (m - 1)) (k + 1) (w .sheet) ≡ walkedFrom (readFrom entryOf bytes k m) k s
+pub goes : {w : Walked} (bytes : List ℕ) (k m : ℕ) (s : Gathered) → 0 < m → w ≡ taken s k (heldEntry (entryOf (recordAt bytes k) k))
+    → w .number ≡ 0 → walkedFrom (readFrom entryOf bytes (k + 1) (m - 1)) (k + 1) (w .gathered) ≡ walkedFrom (readFrom entryOf bytes k m) k s
 unfolding readFrom
 goes bytes k zero s h e f = absurd (let z : ⊥ = omega arith in z)
 goes {w} bytes k (suc m) s h e f =
@@ -141,10 +141,10 @@ goes {w} bytes k (suc m) s h e f =
     let g = goes-at (entryOf (recordAt bytes k) k) (readFrom entryOf bytes (suc k) m) s k (each-entry _ k) (ap (λ (u : Walked). u .number) (sym e) ∙ f) in
     rw (q, add-one k, e) g
 
-pub ends : (bytes : List ℕ) (k m : ℕ) (s : Sheet) → m ≡ 0 → went s ≡ walkedFrom (readFrom entryOf bytes k m) k s
+pub ends : (bytes : List ℕ) (k m : ℕ) (s : Gathered) → m ≡ 0 → went s ≡ walkedFrom (readFrom entryOf bytes k m) k s
 unfolding readFrom walkedFrom adding
 ends bytes k m s e = rw e
 
-pub empty : {s : Sheet} → s ≡ noSheet → (s .heads ≡ 0) × (s .doses ≡ 0) × (s .order .count ≡ 0)
-unfolding noSheet heldOrder
+pub empty : {s : Gathered} → s ≡ noRecords → (s .heads ≡ 0) × (s .doses ≡ 0) × (s .order .count ≡ 0)
+unfolding noRecords heldOrder
 empty e = rw e (refl, refl, refl)

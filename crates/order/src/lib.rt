@@ -8,8 +8,8 @@ ghost use lib.ListN.{length};
 ghost use Rattle.model.specs.Records.{readAll};
 ghost use Rattle.model.specs.Orders.{entryOf, clash, clashesAny};
 ghost use Rattle.order.specs.Held.{asDose, heldEntry, dosesHeld, noOrder, ReadFrom};
-ghost use Rattle.order.specs.Sheets.{noSheet, withDose, marked, withFans, withDoseAt};
-ghost use Rattle.order.specs.Sheets.{taken, takenOther, takenRefused, settled, walkedFrom, refusedReading};
+ghost use Rattle.order.specs.Gathered.{noRecords, withDose, marked, withFans, withDoseAt};
+ghost use Rattle.order.specs.Gathered.{taken, takenOther, takenRefused, settled, walkedFrom, refusedReading};
 
 // "number of fans, 1 to 8; top grams, top seconds, each 1 to 1,000,000"
 pub struct Fans {
@@ -59,18 +59,18 @@ pub struct Reading {
 
 // What the records so far come to: F records, D records, the first 24 doses, and 1 more than the index of the first D
 // that overlaps an earlier one of these (0: none does; more doses than 24 are refused before).
-struct Sheet {
+struct Gathered {
     heads: usize,
     doses: usize,
     mark: usize,
     order: Order,
 }
 
-// The sheet with number 0, or a record's refusal.
+// What was gathered, with number 0; or a record's refusal.
 struct Walked {
     number: u32,
     place: usize,
-    sheet: Sheet,
+    gathered: Gathered,
 }
 
 // "two doses of one bay with overlapping windows (touching is allowed)"
@@ -154,11 +154,11 @@ fn mark_of(o: Order, d: Dose, mark: usize, k: usize) -> usize
     0
 }
 
-fn no_sheet() -> Sheet
-    ensures { λ r. ⌜ r ≡ noSheet ⌝ }
+fn no_records() -> Gathered
+    ensures { λ r. ⌜ r ≡ noRecords ⌝ }
 {
     let o = no_order();
-    Sheet {
+    Gathered {
         heads: 0,
         doses: 0,
         mark: 0,
@@ -166,7 +166,7 @@ fn no_sheet() -> Sheet
     }
 }
 
-fn add_fans(s: Sheet, f: Fans) -> Sheet
+fn add_fans(s: Gathered, f: Fans) -> Gathered
     requires { ⌜ s .heads < 50 ⌝ }
     ensures { λ r. ⌜ r ≡ withFans s f ⌝ }
 {
@@ -174,7 +174,7 @@ fn add_fans(s: Sheet, f: Fans) -> Sheet
     o.fans = f.fans;
     o.top_grams = f.top_grams;
     o.top_seconds = f.top_seconds;
-    Sheet {
+    Gathered {
         heads: s.heads + 1,
         doses: s.doses,
         mark: s.mark,
@@ -182,14 +182,14 @@ fn add_fans(s: Sheet, f: Fans) -> Sheet
     }
 }
 
-fn add_dose(s: Sheet, d: Dose, k: usize) -> Sheet
+fn add_dose(s: Gathered, d: Dose, k: usize) -> Gathered
     requires { ⌜ (s .order .count ≤ 24) × (s .doses < 50) × (k < 50) ⌝ }
     ensures { λ r. ⌜ r ≡ withDoseAt s d k ⌝ }
 {
     let o = s.order;
     let m = mark_of(o, d, s.mark, k);
     let n = with_dose(o, d);
-    Sheet {
+    Gathered {
         heads: s.heads,
         doses: s.doses + 1,
         mark: m,
@@ -201,22 +201,22 @@ fn add_dose(s: Sheet, d: Dose, k: usize) -> Sheet
 fn refused_walk(e: Entry) -> Walked
     ensures { λ w. ⌜ w ≡ takenRefused e ⌝ }
 {
-    let n = no_sheet();
+    let n = no_records();
     let Entry::Refused(x) = e else {
         return Walked {
             number: 0,
             place: 0,
-            sheet: n,
+            gathered: n,
         };
     };
     Walked {
         number: x.number,
         place: x.place,
-        sheet: n,
+        gathered: n,
     }
 }
 
-fn add_other(s: Sheet, e: Entry) -> Walked
+fn add_other(s: Gathered, e: Entry) -> Walked
     requires { ⌜ s .heads < 50 ⌝ }
     ensures { λ w. ⌜ w ≡ takenOther s e ⌝ }
 {
@@ -227,12 +227,12 @@ fn add_other(s: Sheet, e: Entry) -> Walked
     Walked {
         number: 0,
         place: 0,
-        sheet: n,
+        gathered: n,
     }
 }
 
-// The sheet with record k, read from its 32 bytes; or the record's refusal.
-fn add_record(s: Sheet, r: &[u8], k: usize) -> Walked
+// What was gathered and record k, read from its 32 bytes; or the record's refusal.
+fn add_record(s: Gathered, r: &[u8], k: usize) -> Walked
     requires { ⌜ (length (now r) ≡ 32) × (s .order .count ≤ 24) × (s .doses < 50) × (s .heads < 50) × (k < 50) ⌝ }
     ensures { λ w. ⌜ w ≡ taken s k (heldEntry (entryOf (now (r .entry)) k)) ⌝ }
 {
@@ -244,17 +244,17 @@ fn add_record(s: Sheet, r: &[u8], k: usize) -> Walked
     Walked {
         number: 0,
         place: 0,
-        sheet: n,
+        gathered: n,
     }
 }
 
 // All records, one after the other, up to the first that is refused.
 fn walk(bytes: &[u8]) -> Walked
     requires { ⌜ length (now bytes) ≤ 1600 ⌝ }
-    ensures { λ w. ⌜ w ≡ walkedFrom (readAll entryOf (now (bytes .entry))) 0 noSheet ⌝ }
+    ensures { λ w. ⌜ w ≡ walkedFrom (readAll entryOf (now (bytes .entry))) 0 noRecords ⌝ }
 {
     let n = bytes.len() / 32;
-    let mut s = no_sheet();
+    let mut s = no_records();
     let mut k = 0;
     while k < n {
         let a = 32 * k;
@@ -263,14 +263,14 @@ fn walk(bytes: &[u8]) -> Walked
         if w.number != 0 {
             return w;
         }
-        let next = w.sheet;
+        let next = w.gathered;
         s = next;
         k += 1;
     }
     Walked {
         number: 0,
         place: 0,
-        sheet: s,
+        gathered: s,
     }
 }
 
@@ -286,7 +286,7 @@ fn refuse(number: u32, place: usize) -> Reading
 }
 
 // "then 6, 7, 8"
-fn settle(s: Sheet) -> Reading
+fn settle(s: Gathered) -> Reading
     ensures { λ r. ⌜ r ≡ settled s ⌝ }
 {
     if s.heads != 1 {
@@ -321,6 +321,6 @@ pub fn read_order(bytes: &[u8]) -> Reading
     if w.number != 0 {
         return refuse(w.number, w.place);
     }
-    let s = w.sheet;
+    let s = w.gathered;
     settle(s)
 }

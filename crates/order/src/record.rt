@@ -8,7 +8,7 @@ ghost use lib.ListN.{length};
 ghost use Rattle.model.specs.Records.{within, blankAt, fansParts, doseParts};
 ghost use Rattle.model.specs.Orders.{fansFit, doseFits, fansOf, doseOf, entryOf};
 ghost use Rattle.order.specs.Held.{asFans, asDose, heldFans, heldDose, heldEntry};
-ghost use Rattle.order.specs.Sheets.{faultOf, fansEntered, doseEntered};
+ghost use Rattle.order.specs.Gathered.{faultOf, fansEntered, doseEntered};
 
 fn inside(lo: u32, hi: u32, v: u32) -> bool
     ensures { λ r. ⌜ r ≡ within lo hi v ⌝ }

@@ -1,5 +1,5 @@
 -- `add_dose` meets its contract: the mark is the one of `mark_of`, the order that of `with_dose`, and one D more is counted.
-use Rattle.order.specs.Sheets.{withDoseAt}
+use Rattle.order.specs.Gathered.{withDoseAt}
 use borrow.Author.Needs.{needs}
 use Rattle.order.proofs.add_dose.Statement.{statement}
 use Rattle.order.proofs.add_dose.Tie as tie

@@ -1,6 +1,6 @@
 -- `add_fans` meets its contract: the three fields of the F go into the order, and one F more is counted.
 use mathlib.Core.Path.{refl}
-use Rattle.order.specs.Sheets.{withFans}
+use Rattle.order.specs.Gathered.{withFans}
 use borrow.Author.Needs.{needs}
 use Rattle.order.proofs.add_fans.Statement.{statement}
 use Rattle.order.proofs.add_fans.Tie as tie

@@ -1,4 +1,4 @@
--- `add_other` meets its contract: an F goes into the sheet, and anything else is what `refused_walk` makes of it (Takes).
+-- `add_other` meets its contract: an F is added to what was gathered, and anything else is what `refused_walk` makes of it (Takes).
 use Rattle.order.proofs.Takes.{no-fans, some-fans}
 use borrow.Author.Needs.{needs}
 use Rattle.order.proofs.add_other.Statement.{statement}

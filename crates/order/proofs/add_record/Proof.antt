@@ -1,6 +1,6 @@
--- `add_record` meets its contract: a D goes into the sheet, and anything else is what `add_other` makes of it (Takes).
+-- `add_record` meets its contract: a D is added to what was gathered, and anything else is what `add_other` makes of it (Takes).
 use mathlib.Core.Path.{ap, _∙_}
-use Rattle.order.specs.Sheets.{taken}
+use Rattle.order.specs.Gathered.{taken}
 use Rattle.order.proofs.Takes.{no-dose, some-dose}
 use borrow.Author.Needs.{needs}
 use Rattle.order.proofs.add_record.Statement.{statement}

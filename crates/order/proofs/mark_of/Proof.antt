@@ -2,7 +2,7 @@
 use Prim.Native.Nat.{ℕ}
 use mathlib.Core.Path.{refl, sym, _∙_}
 use borrow.Author.Tests.{eq-eqb, ne-eqb}
-use Rattle.order.specs.Sheets.{marked}
+use Rattle.order.specs.Gathered.{marked}
 use Rattle.order.proofs.Cases.{at-off, at-on}
 use borrow.Author.Needs.{needs}
 use Rattle.order.proofs.mark_of.Statement.{statement}

@@ -2,7 +2,7 @@
 use mathlib.Core.Path.{refl, sym}
 use borrow.Author.Tests.{eq-eqb, ne-eqb, le-leb, lt-leb}
 use Rattle.order.specs.declared.Reading.{Reading}
-use Rattle.order.specs.Sheets.{settled}
+use Rattle.order.specs.Gathered.{settled}
 use Rattle.order.proofs.Cases.{at-off, at-on}
 use borrow.Author.Needs.{needs}
 use Rattle.order.proofs.settle.Statement.{statement}

@@ -1,4 +1,4 @@
--- `walk` meets its contract: the sheet so far and the records left come to what all come to; a refusal ends the walk (Walks).
+-- `walk` meets its contract: what is gathered so far and the records left come to what all come to; a refusal ends the walk (Walks).
 use mathlib.Core.List.{List}
 use Rattle.field.proofs.Records.{record-part, part-length}
 use Rattle.order.proofs.Walks.{counts, stops, goes, ends, empty}
@@ -12,23 +12,23 @@ use Rattle.model.specs.Records.{readFrom, recordAt}
 use Rattle.model.specs.Orders.{entryOf}
 use Rattle.order.specs.declared.Walked.{Walked}
 use Rattle.order.specs.Held.{heldEntry}
-use Rattle.order.specs.Sheets.{taken, noSheet, walkedFrom}
+use Rattle.order.specs.Gathered.{taken, noRecords, walkedFrom}
 use Rattle.order.proofs.walk.Statement.{statement}
 use Rattle.order.proofs.walk.Tie as tie
 
 abbrev Inv-loop : tie.InvT-loop
-Inv-loop bytes n s₀ k₀ s k = (k ≤ n) × (n ≡ length bytes / 32) × (s .heads ≤ k) × (s .doses ≤ k) × (s .order .count ≤ 24) × (walkedFrom (readFrom entryOf bytes k (n - k)) k s ≡ walkedFrom (readFrom entryOf bytes 0 n) 0 noSheet)
+Inv-loop bytes n s₀ k₀ s k = (k ≤ n) × (n ≡ length bytes / 32) × (s .heads ≤ k) × (s .doses ≤ k) × (s .order .count ≤ 24) × (walkedFrom (readFrom entryOf bytes k (n - k)) k s ≡ walkedFrom (readFrom entryOf bytes 0 n) 0 noRecords)
 
 abbrev μ-loop : tie.MeasureT-loop
 μ-loop bytes n s₀ k₀ s k = n - k
 
-no-sheet-requires : tie.Need-no-sheet-requires Inv-loop μ-loop
-no-sheet-requires c κs = tt
+no-records-requires : tie.Need-no-records-requires Inv-loop μ-loop
+no-records-requires c κs = tt
 
 loop-holds : tie.Need-loop-holds Inv-loop μ-loop
 loop-holds c =
-    let e = empty (c .no-sheet .ensures) in
-    (omega arith, refl, omega (arith, e .0), omega (arith, e .1), omega (arith, e .2), rw (sub-zero, c .no-sheet .ensures))
+    let e = empty (c .no-records .ensures) in
+    (omega arith, refl, omega (arith, e .0), omega (arith, e .1), omega (arith, e .2), rw (sub-zero, c .no-records .ensures))
 
 mul-a : tie.Need-mul-a Inv-loop μ-loop
 mul-a c = omega arith
@@ -73,9 +73,9 @@ loop-again c =
     let n = length b / 32 in
     let e : c .before .before .before .add-record .result ≡ taken (L .s) (L .k) (heldEntry (entryOf (recordAt b (L .k)) (L .k))) =
     c .before .before .before .add-record .ensures ∙ ap (λ (r : List ℕ). taken (L .s) (L .k) (heldEntry (entryOf r (L .k)))) (record-part b (L .k)) in
-    let h = ap (λ (w : Walked). w .sheet .heads) e in
-    let d = ap (λ (w : Walked). w .sheet .doses) e in
-    let m = ap (λ (w : Walked). w .sheet .order .count) e in
+    let h = ap (λ (w : Walked). w .gathered .heads) e in
+    let d = ap (λ (w : Walked). w .gathered .doses) e in
+    let m = ap (λ (w : Walked). w .gathered .order .count) e in
     let t = counts (L .s) (L .k) (heldEntry (entryOf (recordAt b (L .k)) (L .k))) (L .inv .4) in
     let q : n - (L .k + 1) ≡ n - L .k - 1 = omega arith in (
       omega arith,
@@ -95,7 +95,7 @@ walk-spec =
     (tie.spec
     Inv-loop
     μ-loop
-    no-sheet-requires
+    no-records-requires
     loop-holds
     mul-a
     add-e

@@ -1,6 +1,6 @@
 -- `with_dose` meets its contract: an order with 24 doses stays as it is; any other has the dose behind its last.
 use borrow.Author.Tests.{le-leb, lt-leb}
-use Rattle.order.specs.Sheets.{withDose}
+use Rattle.order.specs.Gathered.{withDose}
 use borrow.Author.Needs.{needs}
 use Rattle.order.proofs.with_dose.Statement.{statement}
 use Rattle.order.proofs.with_dose.Tie as tie

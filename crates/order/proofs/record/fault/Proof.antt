@@ -1,6 +1,6 @@
 -- `fault` meets its contract: the zeros are asked first and give 4, then the ranges give 5, and neither gives 0.
 use borrow.Author.Tests.{not-true, not-false}
-use Rattle.order.specs.Sheets.{faultOf}
+use Rattle.order.specs.Gathered.{faultOf}
 use Rattle.order.proofs.record.fault.Statement.{statement}
 use Rattle.order.proofs.record.fault.Tie as tie
 

@@ -15,7 +15,7 @@ use Rattle.order.specs.declared.Entry.{Entry}
 use Rattle.order.specs.declared.Entry.the-variants as is
 use Rattle.order.specs.declared.Order.{Order}
 use Rattle.order.specs.declared.Reading.{Reading}
-use Rattle.order.specs.declared.Sheet.{Sheet}
+use Rattle.order.specs.declared.Gathered.{Gathered}
 use Rattle.order.specs.declared.Walked.{Walked}
 
 -- ---- a record of known kind
@@ -48,10 +48,10 @@ withDose o d = pick (leb 24 (o .count)) o
 unfoldable pub marked : Order → Dose → ℕ → ℕ → ℕ
 marked o d mark k = pick (eqb mark 0) (pick (clashesAny (asDose d) (dosesHeld o)) (k + 1) 0) mark
 
-unfoldable pub noSheet : Sheet
-noSheet = record { heads = 0; doses = 0; mark = 0; order = noOrder }
+unfoldable pub noRecords : Gathered
+noRecords = record { heads = 0; doses = 0; mark = 0; order = noOrder }
 
-unfoldable pub withFans : Sheet → Fans → Sheet
+unfoldable pub withFans : Gathered → Fans → Gathered
 withFans s f = record {
   heads = s .heads + 1;
   doses = s .doses;
@@ -68,47 +68,47 @@ withFans s f = record {
   };
 }
 
-unfoldable pub withDoseAt : Sheet → Dose → ℕ → Sheet
+unfoldable pub withDoseAt : Gathered → Dose → ℕ → Gathered
 withDoseAt s d k =
     record { heads = s .heads; doses = s .doses + 1; mark = marked (s .order) d (s .mark) k; order = withDose (s .order) d }
 
-abbrev pub went : Sheet → Walked
-went s = record { number = 0; place = 0; sheet = s }
+abbrev pub went : Gathered → Walked
+went s = record { number = 0; place = 0; gathered = s }
 
 unfoldable pub takenRefused : Entry → Walked
-takenRefused (is.Fans f) = went noSheet
-takenRefused (is.Dose d) = went noSheet
-takenRefused (is.Refused x) = record { number = x .number; place = x .place; sheet = noSheet }
+takenRefused (is.Fans f) = went noRecords
+takenRefused (is.Dose d) = went noRecords
+takenRefused (is.Refused x) = record { number = x .number; place = x .place; gathered = noRecords }
 
-unfoldable pub takenOther : Sheet → Entry → Walked
+unfoldable pub takenOther : Gathered → Entry → Walked
 takenOther s (is.Fans f) = went (withFans s f)
 takenOther s (is.Dose d) = takenRefused (is.Dose d)
 takenOther s (is.Refused x) = takenRefused (is.Refused x)
 
--- the sheet s with record k
-unfoldable pub taken : Sheet → ℕ → Entry → Walked
+-- s, gathered so far, and record k
+unfoldable pub taken : Gathered → ℕ → Entry → Walked
 taken s k (is.Fans f) = takenOther s (is.Fans f)
 taken s k (is.Dose d) = went (withDoseAt s d k)
 taken s k (is.Refused x) = takenOther s (is.Refused x)
 
 -- ---- all records
 
--- the sheet s with the records from index k on
-unfoldable pub adding : Sheet → ℕ → List orders.Entry → Sheet
+-- s, gathered so far, and the records from index k on
+unfoldable pub adding : Gathered → ℕ → List orders.Entry → Gathered
 adding s k [] = s
 adding s k (fansEntry f ∷ es) = adding (withFans s (heldFans f)) (suc k) es
 adding s k (doseEntry d ∷ es) = adding (withDoseAt s (heldDose d) k) (suc k) es
 
-unfoldable pub walkedFrom : records.Reading (List orders.Entry) → ℕ → Sheet → Walked
+unfoldable pub walkedFrom : records.Reading (List orders.Entry) → ℕ → Gathered → Walked
 walkedFrom (read es) k s = went (adding s k es)
-walkedFrom (refused number place) k s = record { number = number; place = place; sheet = noSheet }
+walkedFrom (refused number place) k s = record { number = number; place = place; gathered = noRecords }
 
 -- ---- the checks behind the last record
 
 abbrev pub refusedReading : ℕ → ℕ → Reading
 refusedReading number place = record { number = number; place = place; order = noOrder }
 
-unfoldable pub settled : Sheet → Reading
+unfoldable pub settled : Gathered → Reading
 settled s =
     pick (eqb (s .heads) 1)
     (pick (leb (s .doses) 24)
