@@ -2,11 +2,11 @@
 use mathlib.Core.Logic.{_⊎_, inl, inr}
 use mathlib.Core.Path.{_≡_, sym}
 use mathlib.Core.List.{List}
-use Prim.Native.Nat.{ℕ, _*_, _≤_, _<_}
+use Prim.Native.Nat.{ℕ, _+_, _*_, _≤_, _<_}
 use native.Mathlib.Nat.{eq-or-lt-of-le, le-of-mul-le-mul-right, lt-of-mul-lt-mul-right, mul-le-mul-right}
 use native.Mathlib.Omega.{arith}
 use lib.ListN.{length, getD}
-use Rattle.model.specs.Orders.{Order, doseAt}
+use Rattle.model.specs.Orders.{Order, doseAt, restOf}
 use Rattle.model.specs.Plans.{Slot, planRecords, slotsRead}
 use Rattle.model.specs.Stands.{Between, Named, Stands}
 use Rattle.model.specs.Line.{Covers}
@@ -45,7 +45,7 @@ module _ (o : Order) (plan : List ℕ) (st : Stands o plan) (fit : Fit o) where
       let n′ = named u i′ l′ in
       let a = inside q x s n c in
       let b = inside q x s′ n′ c′ in
-      let clash : (doseAt o (s .dose) .deadline ≤ doseAt o (s′ .dose) .release) ⊎ (doseAt o (s′ .dose) .deadline ≤ doseAt o (s .dose) .release) → ⊥ = λ w. elim w [
+      let clash : (doseAt o (s .dose) .deadline + restOf o ≤ doseAt o (s′ .dose) .release) ⊎ (doseAt o (s′ .dose) .deadline + restOf o ≤ doseAt o (s .dose) .release) → ⊥ = λ w. elim w [
         | inl g ↦ omega (arith, mul-le-mul-right q g, a, b)
         | inr g ↦ omega (arith, mul-le-mul-right q g, a, b)
       ] in

@@ -12,7 +12,7 @@ use lib.Ieee.Bits.{is-false, is-true}
 use lib.ListN.{length, getD, length-append, List·getD-append}
 use lib.Seq.{getD-append-seam}
 use Rattle.model.specs.Records.{pick, Reading, read, refused, andThen, fansParts, doseParts, blankAt, recordAt, readAll}
-use Rattle.model.specs.Orders.{Dose, noDose, Entry, fansEntry, doseEntry, fansOf, doseOf, fansFit, doseFits, checked, entryOf, fansIn, dosesIn, apart, clash, clashesAny, noClash, orderOf, readOrder}
+use Rattle.model.specs.Orders.{Dose, Order, noDose, Entry, fansEntry, doseEntry, fansOf, doseOf, fansFit, doseFits, checked, entryOf, fansIn, dosesIn, apart, clash, clashesAny, noClash, orderIn, restOf, orderOf, readOrder}
 use Rattle.model.proofs.Sums.{last}
 use Rattle.model.proofs.Fractions.{compare≤}
 use Rattle.model.proofs.Readings.{First, Listed, Says, refusal-says, says-pick, says-then, walk-read, walk-refused, walk-says}
@@ -64,14 +64,14 @@ pub record Entries (order : List ℕ) (es : List Entry) : Type 0 where
   pub count : length es ≡ length order / 32
   pub each : (k : ℕ) → k < length es → entryOf (recordAt order k) k ≡ read (getD es k noEntry)
 
--- "two doses of one bay with overlapping windows (touching is allowed)"
-pub record Overlap (x y : Dose) : Type 0 where
+-- "two doses of one bay with overlapping windows": each opens before the other has ended and rested; with no rest "touching is allowed"
+pub record Overlap (rest : ℕ) (x y : Dose) : Type 0 where
   pub bay : x .bay ≡ y .bay
-  pub opens : x .release < y .deadline
-  pub closes : y .release < x .deadline
+  pub opens : x .release < y .deadline + rest
+  pub closes : y .release < x .deadline + rest
 
 -- record i is a "D that overlaps an earlier one"
-pub record OverlapsEarlier (es : List Entry) (i : ℕ) : Type 0 where
+pub record OverlapsEarlier (rest : ℕ) (es : List Entry) (i : ℕ) : Type 0 where
   pub there : i < length es
   pub dose : Dose
   pub is : getD es i noEntry ≡ doseEntry dose
@@ -79,7 +79,7 @@ pub record OverlapsEarlier (es : List Entry) (i : ℕ) : Type 0 where
   pub before : earlier < i
   pub other : Dose
   pub was : getD es earlier noEntry ≡ doseEntry other
-  pub overlap : Overlap dose other
+  pub overlap : Overlap rest dose other
 
 -- the table: number and place
 pub data Given (order : List ℕ) : ℕ → ℕ → Type 0 where
@@ -93,7 +93,7 @@ pub data Given (order : List ℕ) : ℕ → ℕ → Type 0 where
   many-doses : (es : List Entry) → Entries order es → length (fansIn es) ≡ 1 → 24 < length (dosesIn es) → Given order 7 0
   -- 8: place is "the record index of the first D that overlaps an earlier one"
   overlapping : (es : List Entry) → Entries order es → length (fansIn es) ≡ 1 → length (dosesIn es) ≤ 24
-      → (i : ℕ) → OverlapsEarlier es i → ((k : ℕ) → k < i → OverlapsEarlier es k → ⊥) → Given order 8 i
+      → (i : ℕ) → OverlapsEarlier (restOf (orderIn es)) es i → ((k : ℕ) → k < i → OverlapsEarlier (restOf (orderIn es)) es k → ⊥) → Given order 8 i
 
 -- ---- one record
 
@@ -140,46 +140,7 @@ module _ (r : List ℕ) (i : ℕ) where
     λ row. row-refuses number (row .0) ∙ ap (λ (k : ℕ). refused number k) (sym (row .1)),
   )
 
--- ---- 8
-
--- the test of two doses
-clash-overlap : (x y : Dose) → T (clash x y) → Overlap x y
-clash-overlap x y t =
-    let bays = eqb (x .bay) (y .bay) in
-    let gap = apart 0 x y in
-    record {
-      bay = eqb→eq _ _ (and-left bays (not gap) t);
-      opens = omega (arith, nleb→lt (y .deadline + 0) (x .release) (neither (leb (x .deadline + 0) (y .release)) _ (and-right bays (not gap) t) .1));
-      closes = omega (arith, nleb→lt (x .deadline + 0) (y .release) (neither (leb (x .deadline + 0) (y .release)) _ (and-right bays (not gap) t) .0));
-    }
-  where
-    neither : (a b : Bool) → T (not (a || b)) → T (not a) × T (not b)
-    neither false b u = (tt, u)
-
-overlap-clash : (x y : Dose) → Overlap x y → T (clash x y)
-overlap-clash x y h =
-    rw (eq-eqb (x .bay) (y .bay) (h .bay), lt-leb (x .deadline + 0) (y .release) (omega arith), lt-leb (y .deadline + 0) (x .release) (omega arith)) tt
-
--- a dose that clashes with one of the records in front
-clashes-with : (d : Dose) (front : List Entry) → T (clashesAny d (dosesIn front))
-    → (h : ℕ) × (h < length front) × (e : Dose) × (getD front h noEntry ≡ doseEntry e) × Overlap d e
-unfolding dosesIn clashesAny
-clashes-with d (fansEntry f ∷ front) t = let r = clashes-with d front t in (suc (r .0), omega (arith, r .1), r .2, r .3, r .4)
-clashes-with d (doseEntry e ∷ front) t =
-    let later = clashes-with d front in
-    or-elim (clash d e) (clashesAny d (dosesIn front)) t (λ u. (0, omega arith, e, refl, clash-overlap d e u))
-    (λ u. let r = later u in (suc (r .0), omega (arith, r .1), r .2, r .3, r .4))
-
-with-clashes : (d : Dose) (front : List Entry) (h : ℕ) (e : Dose) → h < length front → getD front h noEntry ≡ doseEntry e → Overlap d e
-    → T (clashesAny d (dosesIn front))
-unfolding dosesIn clashesAny
-with-clashes d [] h e l g o = absurd (omega arith)
-with-clashes d (fansEntry f ∷ front) zero e l g o = let z : _≡_ {A = ℕ} 0 1 = cc in absurd (omega arith)
-with-clashes d (fansEntry f ∷ front) (suc h) e l g o = with-clashes d front h e (omega arith) g o
-with-clashes d (doseEntry x ∷ front) zero e l g o =
-    let same : x ≡ e = cc in or-left (clash d x) (clashesAny d (dosesIn front)) (rw same (overlap-clash d e o))
-with-clashes d (doseEntry x ∷ front) (suc h) e l g o =
-    or-right (clash d x) (clashesAny d (dosesIn front)) (with-clashes d front h e (omega arith) g o)
+-- ---- 8, for any length of rest
 
 doses-append : (front es : List Entry) → dosesIn (front ++ es) ≡ dosesIn front ++ dosesIn es
 unfolding dosesIn
@@ -187,88 +148,137 @@ doses-append [] es = refl
 doses-append (fansEntry f ∷ front) es = doses-append front es
 doses-append (doseEntry d ∷ front) es = ap (λ (l : List Dose). d ∷ l) (doses-append front es)
 
-module _ (all : List Entry) where
-  -- no record overlaps an earlier one
-  abbrev NoOverlaps : List Dose → Type 0
-  NoOverlaps ds = (k : ℕ) → OverlapsEarlier all k → ⊥
-
-  -- one is the first that does
-  abbrev FirstOverlap : ℕ → ℕ → Type 0
-  FirstOverlap number place = (number ≡ 8) × OverlapsEarlier all place × ((k : ℕ) → k < place → OverlapsEarlier all k → ⊥)
-
-  -- record i, with the records in front of it and behind it
-  module _ (front es : List Entry) (e : Entry) (i : ℕ) (a : all ≡ front ++ e ∷ es) (l : i ≡ length front) where
-    at-seam : getD all i noEntry ≡ e
-    at-seam = rw (a, l) (getD-append-seam front e es noEntry)
-
-    in-front : (h : ℕ) → h < i → getD all h noEntry ≡ getD front h noEntry
-    in-front h q = ap (λ (m : List Entry). getD m h noEntry) a ∙ List·getD-append front (e ∷ es) noEntry h (omega arith)
-
-    regroup : all ≡ (front ++ e ∷ []) ++ es
-    regroup = a ∙ sym (append-assoc front (e ∷ []) es)
-
-    one-longer : suc i ≡ length (front ++ e ∷ [])
-    one-longer = omega (arith, length-append front (e ∷ []))
-
-    none-more : ((k : ℕ) → k < i → OverlapsEarlier all k → ⊥) → (OverlapsEarlier all i → ⊥) → (k : ℕ) → k < suc i → OverlapsEarlier all k → ⊥
-    none-more none here k q o = elim (last q) [ inl z ↦ here (rw z at o) | inr m ↦ none k m o ]
-
-  clash-says : (es front : List Entry) (earlier : List Dose) (i : ℕ) → all ≡ front ++ es → earlier ≡ dosesIn front → i ≡ length front
-      → ((k : ℕ) → k < i → OverlapsEarlier all k → ⊥) → Says (noClash earlier i es) NoOverlaps FirstOverlap
-  unfolding noClash dosesIn
-  clash-says [] front earlier i a d l none = λ k o. none k (omega (arith, o .there, ap length a, length-append front [])) o
-  clash-says (fansEntry f ∷ es) front earlier i a d l none =
-      let e = fansEntry f in
-      clash-says es (front ++ e ∷ []) earlier (suc i) (regroup front es e i a l) (d ∙ sym (append-nil (dosesIn front)) ∙ sym (doses-append front (e ∷ [])))
-      (one-longer front es e i a l) (none-more front es e i a l none no-dose)
+module _ (rest : ℕ) where
+  -- the test of two doses
+  clash-overlap : (x y : Dose) → T (clash rest x y) → Overlap rest x y
+  clash-overlap x y t =
+      let bays = eqb (x .bay) (y .bay) in
+      let gap = apart rest x y in
+      let near = neither (leb (x .deadline + rest) (y .release)) _ (and-right bays (not gap) t) in
+      record {
+        bay = eqb→eq _ _ (and-left bays (not gap) t);
+        opens = nleb→lt (y .deadline + rest) (x .release) (near .1);
+        closes = nleb→lt (x .deadline + rest) (y .release) (near .0);
+      }
     where
-      no-dose : OverlapsEarlier all i → ⊥
-      no-dose o =
-          let q = at-seam front es (fansEntry f) i a l in
-          let g = o .is in
-          let z : _≡_ {A = ℕ} 0 1 = cc in omega arith
-  clash-says (doseEntry x ∷ es) front earlier i a d l none =
-      let e = doseEntry x in
-      let later : (OverlapsEarlier all i → ⊥) → Says (noClash (earlier ++ x ∷ []) (suc i) es) NoOverlaps FirstOverlap = λ free. clash-says es (front ++ e ∷ []) (earlier ++ x ∷ []) (suc i) (regroup front es e i a l)
-      (ap (λ (m : List Dose). m ++ x ∷ []) d ∙ sym (doses-append front (e ∷ []))) (one-longer front es e i a l) (none-more front es e i a l none free) in
-      says-pick NoOverlaps FirstOverlap (clashesAny x earlier) _ _ (λ t. (refl, overlaps (rw d at t), none)) (λ t. later (λ o. T-not (clashesAny x earlier) t (rw d (clashing o))))
+      neither : (a b : Bool) → T (not (a || b)) → T (not a) × T (not b)
+      neither false b u = (tt, u)
+
+  overlap-clash : (x y : Dose) → Overlap rest x y → T (clash rest x y)
+  overlap-clash x y h =
+      rw (eq-eqb (x .bay) (y .bay) (h .bay), lt-leb (x .deadline + rest) (y .release) (h .closes), lt-leb (y .deadline + rest) (x .release) (h .opens)) tt
+
+  -- a dose that clashes with one of the records in front
+  clashes-with : (d : Dose) (front : List Entry) → T (clashesAny rest d (dosesIn front))
+      → (h : ℕ) × (h < length front) × (e : Dose) × (getD front h noEntry ≡ doseEntry e) × Overlap rest d e
+  unfolding dosesIn clashesAny
+  clashes-with d (fansEntry f ∷ front) t = let r = clashes-with d front t in (suc (r .0), omega (arith, r .1), r .2, r .3, r .4)
+  clashes-with d (doseEntry e ∷ front) t =
+      let later = clashes-with d front in
+      or-elim (clash rest d e) (clashesAny rest d (dosesIn front)) t (λ u. (0, omega arith, e, refl, clash-overlap d e u))
+      (λ u. let r = later u in (suc (r .0), omega (arith, r .1), r .2, r .3, r .4))
+
+  with-clashes : (d : Dose) (front : List Entry) (h : ℕ) (e : Dose) → h < length front → getD front h noEntry ≡ doseEntry e → Overlap rest d e
+      → T (clashesAny rest d (dosesIn front))
+  unfolding dosesIn clashesAny
+  with-clashes d [] h e l g o = absurd (omega arith)
+  with-clashes d (fansEntry f ∷ front) zero e l g o = let z : _≡_ {A = ℕ} 0 1 = cc in absurd (omega arith)
+  with-clashes d (fansEntry f ∷ front) (suc h) e l g o = with-clashes d front h e (omega arith) g o
+  with-clashes d (doseEntry x ∷ front) zero e l g o =
+      let same : x ≡ e = cc in or-left (clash rest d x) (clashesAny rest d (dosesIn front)) (rw same (overlap-clash d e o))
+  with-clashes d (doseEntry x ∷ front) (suc h) e l g o =
+      or-right (clash rest d x) (clashesAny rest d (dosesIn front)) (with-clashes d front h e (omega arith) g o)
+
+  module _ (all : List Entry) where
+    -- no record overlaps an earlier one
+    abbrev NoOverlaps : List Dose → Type 0
+    NoOverlaps ds = (k : ℕ) → OverlapsEarlier rest all k → ⊥
+
+    -- one is the first that does
+    abbrev FirstOverlap : ℕ → ℕ → Type 0
+    FirstOverlap number place = (number ≡ 8) × OverlapsEarlier rest all place × ((k : ℕ) → k < place → OverlapsEarlier rest all k → ⊥)
+
+    -- record i, with the records in front of it and behind it
+    module _ (front es : List Entry) (e : Entry) (i : ℕ) (a : all ≡ front ++ e ∷ es) (l : i ≡ length front) where
+      at-seam : getD all i noEntry ≡ e
+      at-seam = rw (a, l) (getD-append-seam front e es noEntry)
+
+      in-front : (h : ℕ) → h < i → getD all h noEntry ≡ getD front h noEntry
+      in-front h q = ap (λ (m : List Entry). getD m h noEntry) a ∙ List·getD-append front (e ∷ es) noEntry h (omega arith)
+
+      regroup : all ≡ (front ++ e ∷ []) ++ es
+      regroup = a ∙ sym (append-assoc front (e ∷ []) es)
+
+      one-longer : suc i ≡ length (front ++ e ∷ [])
+      one-longer = omega (arith, length-append front (e ∷ []))
+
+      none-more : ((k : ℕ) → k < i → OverlapsEarlier rest all k → ⊥) → (OverlapsEarlier rest all i → ⊥) → (k : ℕ) → k < suc i → OverlapsEarlier rest all k → ⊥
+      none-more none here k q o = elim (last q) [ inl z ↦ here (rw z at o) | inr m ↦ none k m o ]
+
+    clash-says : (es front : List Entry) (earlier : List Dose) (i : ℕ) → all ≡ front ++ es → earlier ≡ dosesIn front → i ≡ length front
+        → ((k : ℕ) → k < i → OverlapsEarlier rest all k → ⊥) → Says (noClash rest earlier i es) NoOverlaps FirstOverlap
+    unfolding noClash dosesIn
+    clash-says [] front earlier i a d l none = λ k o. none k (omega (arith, o .there, ap length a, length-append front [])) o
+    clash-says (fansEntry f ∷ es) front earlier i a d l none =
+        let e = fansEntry f in
+        clash-says es (front ++ e ∷ []) earlier (suc i) (regroup front es e i a l) (d ∙ sym (append-nil (dosesIn front)) ∙ sym (doses-append front (e ∷ [])))
+        (one-longer front es e i a l) (none-more front es e i a l none no-dose)
+      where
+        no-dose : OverlapsEarlier rest all i → ⊥
+        no-dose o =
+            let q = at-seam front es (fansEntry f) i a l in
+            let g = o .is in
+            let z : _≡_ {A = ℕ} 0 1 = cc in omega arith
+    clash-says (doseEntry x ∷ es) front earlier i a d l none =
+        let e = doseEntry x in
+        let later : (OverlapsEarlier rest all i → ⊥) → Says (noClash rest (earlier ++ x ∷ []) (suc i) es) NoOverlaps FirstOverlap = λ free. clash-says es (front ++ e ∷ []) (earlier ++ x ∷ []) (suc i) (regroup front es e i a l)
+        (ap (λ (m : List Dose). m ++ x ∷ []) d ∙ sym (doses-append front (e ∷ []))) (one-longer front es e i a l) (none-more front es e i a l none free) in
+        says-pick NoOverlaps FirstOverlap (clashesAny rest x earlier) _ _ (λ t. (refl, overlaps (rw d at t), none)) (λ t. later (λ o. T-not (clashesAny rest x earlier) t (rw d (clashing o))))
+      where
+        overlaps : T (clashesAny rest x (dosesIn front)) → OverlapsEarlier rest all i
+        overlaps t =
+            let r = clashes-with x front t in
+            record {
+              there = omega (arith, ap length a, length-append front (doseEntry x ∷ es));
+              dose = x;
+              is = at-seam front es (doseEntry x) i a l;
+              earlier = r .0;
+              before = omega (arith, r .1);
+              other = r .2;
+              was = in-front front es (doseEntry x) i a l (r .0) (omega (arith, r .1)) ∙ r .3;
+              overlap = r .4;
+            }
+
+        clashing : OverlapsEarlier rest all i → T (clashesAny rest x (dosesIn front))
+        clashing o =
+            let q = at-seam front es (doseEntry x) i a l in
+            let g = o .is in
+            let same : o .dose ≡ x = cc in
+            with-clashes x front (o .earlier) (o .other) (omega (arith, o .before)) (sym (in-front front es (doseEntry x) i a l (o .earlier) (o .before)) ∙ o .was)
+            (rw same at (o .overlap))
+
+  -- 8 is given for the first, and is not where there is none
+  first-clash : (es : List Entry) → Says (noClash rest [] 0 es) (NoOverlaps es) (FirstOverlap es)
+  unfolding dosesIn
+  first-clash es = clash-says es es [] [] 0 refl refl refl (λ k l. absurd (omega arith))
+
+  clash-refuses : (es : List Entry) (i : ℕ) → OverlapsEarlier rest es i → ((k : ℕ) → k < i → OverlapsEarlier rest es k → ⊥) → noClash rest [] 0 es ≡ refused 8 i
+  clash-refuses es i o none = go (noClash rest [] 0 es) (first-clash es)
     where
-      overlaps : T (clashesAny x (dosesIn front)) → OverlapsEarlier all i
-      overlaps t =
-          let r = clashes-with x front t in
-          record {
-            there = omega (arith, ap length a, length-append front (doseEntry x ∷ es));
-            dose = x;
-            is = at-seam front es (doseEntry x) i a l;
-            earlier = r .0;
-            before = omega (arith, r .1);
-            other = r .2;
-            was = in-front front es (doseEntry x) i a l (r .0) (omega (arith, r .1)) ∙ r .3;
-            overlap = r .4;
-          }
+      go : (x : Reading (List Dose)) → Says x (NoOverlaps es) (FirstOverlap es) → x ≡ refused 8 i
+      go (read ds) s = absurd (s i o)
+      go (refused number place) s = elim (compare≤ place i) [
+        | inl h ↦ elim (eq-or-lt-of-le h) [ inl e ↦ let n = s .0 in cc | inr q ↦ absurd (none place q (s .1)) ]
+        | inr q ↦ absurd (s .2 i q o)
+      ]
 
-      clashing : OverlapsEarlier all i → T (clashesAny x (dosesIn front))
-      clashing o =
-          let q = at-seam front es (doseEntry x) i a l in
-          let g = o .is in
-          let same : o .dose ≡ x = cc in
-          with-clashes x front (o .earlier) (o .other) (omega (arith, o .before)) (sym (in-front front es (doseEntry x) i a l (o .earlier) (o .before)) ∙ o .was)
-          (rw same at (o .overlap))
-
--- 8 is given for the first, and is not where there is none
-first-clash : (es : List Entry) → Says (noClash [] 0 es) (NoOverlaps es) (FirstOverlap es)
-unfolding dosesIn
-first-clash es = clash-says es es [] [] 0 refl refl refl (λ k l. absurd (omega arith))
-
-clash-refuses : (es : List Entry) (i : ℕ) → OverlapsEarlier es i → ((k : ℕ) → k < i → OverlapsEarlier es k → ⊥) → noClash [] 0 es ≡ refused 8 i
-clash-refuses es i o none = go (noClash [] 0 es) (first-clash es)
-  where
-    go : (x : Reading (List Dose)) → Says x (NoOverlaps es) (FirstOverlap es) → x ≡ refused 8 i
-    go (read ds) s = absurd (s i o)
-    go (refused number place) s = elim (compare≤ place i) [
-      | inl h ↦ elim (eq-or-lt-of-le h) [ inl e ↦ let n = s .0 in cc | inr q ↦ absurd (none place q (s .1)) ]
-      | inr q ↦ absurd (s .2 i q o)
-    ]
+-- an order asks for no rest: two of its doses overlap if they are of one bay and each window opens before the other ends
+pub no-rest : (o : Order) (x y : Dose) → Overlap (restOf o) x y ↔ ((x .bay ≡ y .bay) × (x .release < y .deadline) × (y .release < x .deadline))
+unfolding restOf
+no-rest o x y = (
+  λ h. (h .bay, omega (arith, h .opens), omega (arith, h .closes)),
+  λ h. record { bay = h .0; opens = omega (arith, h .1); closes = omega (arith, h .2) },
+)
 
 -- ---- all rows
 
@@ -287,7 +297,7 @@ module _ (order : List ℕ) where
       let few = leb (length (dosesIn es)) 24 in
       says-pick _ (Given order) one _ _ (λ f.
       says-pick _ (Given order) few _ _
-      (λ d. says-then _ (Given order) (λ ds. Unit {0}) (noClash [] 0 es) _ (overlaps es g (eqb→eq _ _ f) (leb→le _ _ d) (noClash [] 0 es) (first-clash es)) (λ ds u. tt))
+      (λ d. says-then _ (Given order) (λ ds. Unit {0}) (noClash (restOf (orderIn es)) [] 0 es) _ (overlaps es g (eqb→eq _ _ f) (leb→le _ _ d) (noClash (restOf (orderIn es)) [] 0 es) (first-clash (restOf (orderIn es)) es)) (λ ds u. tt))
       (λ d. many-doses es g (eqb→eq _ _ f) (nleb→lt _ _ d)))
       (λ f. not-one-fans es g (λ e. T-not one f (rw e tt)))))
       (λ t. wrong-length (unsized (eqb (length order % 32) 0) refl t))
@@ -317,7 +327,7 @@ module _ (order : List ℕ) where
               }) (r .0))
 
       overlaps : (es : List Entry) → Entries order es → length (fansIn es) ≡ 1 → length (dosesIn es) ≤ 24
-          → (x : Reading (List Dose)) → Says x (NoOverlaps es) (FirstOverlap es) → Says x (λ ds. Unit {0}) (Given order)
+          → (x : Reading (List Dose)) → Says x (NoOverlaps (restOf (orderIn es)) es) (FirstOverlap (restOf (orderIn es)) es) → Says x (λ ds. Unit {0}) (Given order)
       overlaps es g one few (read ds) s = tt
       overlaps es g one few (refused number place) s = rw (s .0) (overlapping es g one few place (s .1) (s .2))
 
@@ -350,7 +360,7 @@ module _ (order : List ℕ) where
       (walk-refused entryOf order noEntry (length order / 32) 0 n i (i, r .there, λ k l. let e = r .earlier k l in (e .0, sym (from-zero k) ∙ e .1), sym (from-zero i) ∙ row-refuses (recordAt order i) i n row))
   row-given number place (not-one-fans es g h) = past-records es g ∙ rw (ne-eqb (length (fansIn es)) 1 h)
   row-given number place (many-doses es g one h) = past-records es g ∙ rw (one, lt-leb (length (dosesIn es)) 24 h)
-  row-given number place (overlapping es g one few i o none) = past-records es g ∙ rw (one, le-leb (length (dosesIn es)) 24 few, clash-refuses es i o none)
+  row-given number place (overlapping es g one few i o none) = past-records es g ∙ rw (one, le-leb (length (dosesIn es)) 24 few, clash-refuses (restOf (orderIn es)) es i o none)
 
   -- the table: a number and place are given exactly when their row says
   pub given-exactly : (number place : ℕ) → (readOrder order ≡ refused number place) ↔ Given order number place

@@ -1,4 +1,4 @@
--- What is known of an order that was read: every field is in its range. Assumes nothing.
+-- What is known of an order that was read: every field is in its range, and windows of one bay are apart. Assumes nothing.
 use mathlib.Core.Path.{_≡_, refl, sym, _∙_}
 use mathlib.Core.Bool.{Bool, true, false, not, _&&_, _||_}
 use mathlib.Core.Logic.{_⊎_, inl, inr}
@@ -9,7 +9,7 @@ use lib.Dec.{T, eqb, leb, leb→le, eqb→eq, eqb-refl}
 use lib.ListN.{length, getD}
 use Rattle.model.specs.Lists.{All, none, also, Pairs, lone, then}
 use Rattle.model.specs.Records.{pick, within, Reading, read, refused, andThen, fansParts, doseParts, blankAt, recordAt, readFrom, readAll}
-use Rattle.model.specs.Orders.{Fans, Dose, Order, noDose, doseAt, Entry, fansEntry, doseEntry, fansOf, doseOf, fansFit, doseFits, checked, entryOf, fansIn, dosesIn, apart, clash, clashesAny, noClash, orderWith, orderOf, readOrder}
+use Rattle.model.specs.Orders.{Fans, Dose, Order, noDose, doseAt, Entry, fansEntry, doseEntry, fansOf, doseOf, fansFit, doseFits, checked, entryOf, fansIn, dosesIn, apart, clash, clashesAny, noClash, orderWith, orderIn, restOf, orderOf, readOrder}
 use Rattle.model.proofs.Sets.{and-left, and-right, or-elim}
 use Rattle.model.proofs.Lists.{All-at, Pairs-append, Pairs-at}
 
@@ -90,43 +90,60 @@ doses-fit [] none = none
 doses-fit (fansEntry f ∷ es) (also p a) = doses-fit es a
 doses-fit (doseEntry d ∷ es) (also p a) = also p (doses-fit es a)
 
--- the doses that do not clash are all doses
-doses-read : (earlier : List Dose) (i : ℕ) (es : List Entry) (ds : List Dose) → noClash earlier i es ≡ read ds → ds ≡ earlier ++ dosesIn es
-unfolding noClash dosesIn
-doses-read earlier i [] ds e = let same : ds ≡ earlier = cc in same ∙ sym (append-nil earlier)
-doses-read earlier i (fansEntry f ∷ es) ds e = doses-read earlier (suc i) es ds e
-doses-read earlier i (doseEntry d ∷ es) ds e =
-    doses-read (earlier ++ d ∷ []) (suc i) es ds (free (clashesAny d earlier) e) ∙ append-assoc earlier (d ∷ []) (dosesIn es)
-  where
-    free : (b : Bool) {x : Reading (List Dose)} → pick b (refused 8 i) x ≡ read ds → x ≡ read ds
-    free true q = absurd (no-refusal 8 i ds q)
-    free false q = q
+-- ---- windows of one bay, for any length of rest
 
--- a dose does not clash with an earlier one
-abbrev NoClash : Dose → Dose → Type 0
-NoClash x y = T (not (clash y x))
+module _ (rest : ℕ) where
+  -- the doses that do not clash are all doses
+  doses-read : (earlier : List Dose) (i : ℕ) (es : List Entry) (ds : List Dose) → noClash rest earlier i es ≡ read ds → ds ≡ earlier ++ dosesIn es
+  unfolding noClash dosesIn
+  doses-read earlier i [] ds e = let same : ds ≡ earlier = cc in same ∙ sym (append-nil earlier)
+  doses-read earlier i (fansEntry f ∷ es) ds e = doses-read earlier (suc i) es ds e
+  doses-read earlier i (doseEntry d ∷ es) ds e =
+      doses-read (earlier ++ d ∷ []) (suc i) es ds (free (clashesAny rest d earlier) e) ∙ append-assoc earlier (d ∷ []) (dosesIn es)
+    where
+      free : (b : Bool) {x : Reading (List Dose)} → pick b (refused 8 i) x ≡ read ds → x ≡ read ds
+      free true q = absurd (no-refusal 8 i ds q)
+      free false q = q
 
-no-clashes : (d : Dose) (l : List Dose) → T (not (clashesAny d l)) → All (λ x. All (NoClash x) (d ∷ [])) l
-unfolding clashesAny
-no-clashes d [] t = none
-no-clashes d (x ∷ l) t = let r = neither (clash d x) (clashesAny d l) t in also (also (r .0) none) (no-clashes d l (r .1))
-  where
-    neither : (a b : Bool) → T (not (a || b)) → T (not a) × T (not b)
-    neither false b u = (tt, u)
+  -- a dose does not clash with an earlier one
+  abbrev NoClash : Dose → Dose → Type 0
+  NoClash x y = T (not (clash rest y x))
 
-clear : (earlier : List Dose) (i : ℕ) (es : List Entry) (ds : List Dose) → Pairs NoClash earlier → noClash earlier i es ≡ read ds → Pairs NoClash ds
-unfolding noClash
-clear earlier i [] ds h e = let same : ds ≡ earlier = cc in rw same h
-clear earlier i (fansEntry f ∷ es) ds h e = clear earlier (suc i) es ds h e
-clear earlier i (doseEntry d ∷ es) ds h e =
-    let r = past (clashesAny d earlier) e in
-    clear (earlier ++ d ∷ []) (suc i) es ds (Pairs-append h (then none lone) (no-clashes d earlier (r .0))) (r .1)
-  where
-    past : (b : Bool) {x : Reading (List Dose)} → pick b (refused 8 i) x ≡ read ds → T (not b) × (x ≡ read ds)
-    past true q = absurd (no-refusal 8 i ds q)
-    past false q = (tt, q)
+  no-clashes : (d : Dose) (l : List Dose) → T (not (clashesAny rest d l)) → All (λ x. All (NoClash x) (d ∷ [])) l
+  unfolding clashesAny
+  no-clashes d [] t = none
+  no-clashes d (x ∷ l) t = let r = neither (clash rest d x) (clashesAny rest d l) t in also (also (r .0) none) (no-clashes d l (r .1))
+    where
+      neither : (a b : Bool) → T (not (a || b)) → T (not a) × T (not b)
+      neither false b u = (tt, u)
 
--- every field of the order is in its range, and windows of one bay do not overlap
+  clear : (earlier : List Dose) (i : ℕ) (es : List Entry) (ds : List Dose) → Pairs NoClash earlier → noClash rest earlier i es ≡ read ds
+      → Pairs NoClash ds
+  unfolding noClash
+  clear earlier i [] ds h e = let same : ds ≡ earlier = cc in rw same h
+  clear earlier i (fansEntry f ∷ es) ds h e = clear earlier (suc i) es ds h e
+  clear earlier i (doseEntry d ∷ es) ds h e =
+      let r = past (clashesAny rest d earlier) e in
+      clear (earlier ++ d ∷ []) (suc i) es ds (Pairs-append h (then none lone) (no-clashes d earlier (r .0))) (r .1)
+    where
+      past : (b : Bool) {x : Reading (List Dose)} → pick b (refused 8 i) x ≡ read ds → T (not b) × (x ≡ read ds)
+      past true q = absurd (no-refusal 8 i ds q)
+      past false q = (tt, q)
+
+  -- two doses of one bay that do not clash have the rest between their windows
+  apart-windows : (x y : Dose) → NoClash x y → x .bay ≡ y .bay → (x .deadline + rest ≤ y .release) ⊎ (y .deadline + rest ≤ x .release)
+  apart-windows x y t e =
+      let same : T (eqb (y .bay) (x .bay)) = rw (← e) (eqb-refl (x .bay)) in
+      let gap = yes (eqb (y .bay) (x .bay)) (apart rest y x) same t in
+      or-elim (leb (y .deadline + rest) (x .release)) (leb (x .deadline + rest) (y .release)) gap
+      (λ u. inr (leb→le (y .deadline + rest) (x .release) u)) (λ u. inl (leb→le (x .deadline + rest) (y .release) u))
+    where
+      yes : (a b : Bool) → T a → T (not (a && not b)) → T b
+      yes true true s u = tt
+
+-- ---- the order
+
+-- every field of the order is in its range, and windows of one bay have the order's rest between them
 pub record Fit (o : Order) : Type 0 where
   pub fans-least : 1 ≤ o .fans
   pub fans-most : o .fans ≤ 8
@@ -138,7 +155,7 @@ pub record Fit (o : Order) : Type 0 where
   pub some-grams : (k : ℕ) → k < length (o .doses) → 1 ≤ doseAt o k .grams
   pub light : (k : ℕ) → k < length (o .doses) → doseAt o k .grams ≤ 1000000
   pub inlets : (i k : ℕ) → i < k → k < length (o .doses) → doseAt o i .bay ≡ doseAt o k .bay
-      → (doseAt o i .deadline ≤ doseAt o k .release) ⊎ (doseAt o k .deadline ≤ doseAt o i .release)
+      → (doseAt o i .deadline + restOf o ≤ doseAt o k .release) ⊎ (doseAt o k .deadline + restOf o ≤ doseAt o i .release)
 
 -- lo to hi, as an order
 pub in-range : (lo hi v : ℕ) → T (within lo hi v) → (lo ≤ v) × (v ≤ hi)
@@ -159,19 +176,8 @@ dose-parts d t =
     let grams = in-range 1 1000000 (d .grams) (r .3) in
     (omega (arith, window .0), window .1, grams .0, grams .1)
 
--- two doses of one bay that do not clash
-apart-windows : (x y : Dose) → NoClash x y → x .bay ≡ y .bay → (x .deadline ≤ y .release) ⊎ (y .deadline ≤ x .release)
-apart-windows x y t e =
-    let same : T (eqb (y .bay) (x .bay)) = rw (← e) (eqb-refl (x .bay)) in
-    let gap = yes (eqb (y .bay) (x .bay)) (apart 0 y x) same t in
-    or-elim (leb (y .deadline + 0) (x .release)) (leb (x .deadline + 0) (y .release)) gap
-    (λ u. inr (omega (arith, leb→le (y .deadline + 0) (x .release) u))) (λ u. inl (omega (arith, leb→le (x .deadline + 0) (y .release) u)))
-  where
-    yes : (a b : Bool) → T a → T (not (a && not b)) → T b
-    yes true true s u = tt
-
 order-fits : (fs : List Fans) (ds : List Dose) → length fs ≡ 1 → All (λ f. T (fansFit f)) fs → length ds ≤ 24 → All (λ d. T (doseFits d)) ds
-    → Pairs NoClash ds → Fit (orderWith fs ds)
+    → Pairs (NoClash (restOf (orderWith fs ds))) ds → Fit (orderWith fs ds)
 order-fits [] ds one af few ad free = absurd (omega arith)
 order-fits (f ∷ fs) ds one (also p af) few ad free =
     let r = three (within 1 8 (f .fans)) (within 1 1000000 (f .topGrams)) (within 1 1000000 (f .topSeconds)) p in
@@ -186,20 +192,21 @@ order-fits (f ∷ fs) ds one (also p af) few ad free =
       week = λ k l. dose-parts (getD ds k noDose) (All-at noDose ad k l) .1;
       some-grams = λ k l. dose-parts (getD ds k noDose) (All-at noDose ad k l) .2;
       light = λ k l. dose-parts (getD ds k noDose) (All-at noDose ad k l) .3;
-      inlets = λ i k l q. apart-windows (getD ds i noDose) (getD ds k noDose) (Pairs-at noDose free i k l q);
+      inlets = λ i k l q. apart-windows (restOf (orderWith (f ∷ fs) ds)) (getD ds i noDose) (getD ds k noDose) (Pairs-at noDose free i k l q);
     }
 
 entries-fit : (es : List Entry) (o : Order) → All EntryFits es → orderOf es ≡ read o → Fit o
 unfolding orderOf
 entries-fit es o all e =
+    let rest = restOf (orderIn es) in
     let c = passed (eqb (length (fansIn es)) 1) _ 6 0 o e in
     let d = passed (leb (length (dosesIn es)) 24) _ 7 0 o (c .1) in
-    let f = went-on (noClash [] 0 es) _ o (d .1) in
-    rw (same (f .0) (doses-read [] 0 es (f .0) (f .1)) (f .2))
-    (order-fits (fansIn es) (dosesIn es) (eqb→eq _ _ (c .0)) (fans-fit es all) (leb→le _ _ (d .0)) (doses-fit es all)
-    (rw (doses-read [] 0 es (f .0) (f .1)) at (clear [] 0 es (f .0) lone (f .1))))
+    let f = went-on (noClash rest [] 0 es) _ o (d .1) in
+    let g = doses-read rest [] 0 es (f .0) (f .1) in
+    rw (same (f .0) g (f .2))
+    (order-fits (fansIn es) (dosesIn es) (eqb→eq _ _ (c .0)) (fans-fit es all) (leb→le _ _ (d .0)) (doses-fit es all) (rw g at (clear rest [] 0 es (f .0) lone (f .1))))
   where
-    same : (ds : List Dose) → ds ≡ dosesIn es → read (orderWith (fansIn es) ds) ≡ read o → o ≡ orderWith (fansIn es) (dosesIn es)
+    same : (ds : List Dose) → ds ≡ dosesIn es → read (orderWith (fansIn es) ds) ≡ read o → o ≡ orderIn es
     same ds g q = cc
 
 -- an order that was read fits

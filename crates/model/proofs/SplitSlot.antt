@@ -10,7 +10,7 @@ use lib.ListN.{length, getD}
 use Rattle.model.specs.Sets.{Doses, sum, weight}
 use Rattle.model.specs.Lists.{total, All, none, also, Pairs, lone, then}
 use Rattle.model.specs.Records.{read, numberAt, numberBytes, fieldsAt, blankAt, recordBytes, readFrom}
-use Rattle.model.specs.Orders.{Order, doseAt, entryOf, fansIn, dosesIn, clashesAny, noClash, orderOf, readOrder}
+use Rattle.model.specs.Orders.{Order, doseAt, entryOf, fansIn, dosesIn, clashesAny, noClash, restOf, orderOf, readOrder}
 use Rattle.model.specs.Classes.{P, openFans, free, classP}
 use Rattle.model.specs.Intervals.{insert, instants, settingOf, fansPresent}
 use Rattle.model.specs.Plans.{Class, Slot, planOf, planRecordBytes, recordsBytes}
@@ -163,7 +163,7 @@ right = head cases-right
 
 -- P1's bytes read as the order, which is accepted
 pub reads : readOrder (P1 .order) ≡ read o
-unfolding readOrder orderOf readFrom entryOf fieldsAt blankAt numberAt numberBytes recordBytes fansIn dosesIn clashesAny noClash
+unfolding readOrder orderOf readFrom entryOf fieldsAt blankAt numberAt numberBytes recordBytes fansIn dosesIn clashesAny noClash restOf
 reads = refl
 
 accepts : Accepts (P1 .order) o

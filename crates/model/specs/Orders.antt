@@ -86,31 +86,39 @@ dosesIn (doseEntry d ∷ es) = d ∷ dosesIn es
 abbrev pub apart : ℕ → Dose → Dose → Bool
 apart rest x y = leb (x .deadline + rest) (y .release) || leb (y .deadline + rest) (x .release)
 
--- "two doses of one bay with overlapping windows (touching is allowed)"
-abbrev pub clash : Dose → Dose → Bool
-clash x y = eqb (x .bay) (y .bay) && not (apart 0 x y)
+-- two doses of one bay with less than the rest between their windows; where the rest is 0, "overlapping windows (touching is allowed)"
+abbrev pub clash : ℕ → Dose → Dose → Bool
+clash rest x y = eqb (x .bay) (y .bay) && not (apart rest x y)
 
 -- a dose clashes with one of these
-unfoldable pub clashesAny : Dose → List Dose → Bool
-clashesAny d [] = false
-clashesAny d (e ∷ es) = clash d e || clashesAny d es
+unfoldable pub clashesAny : ℕ → Dose → List Dose → Bool
+clashesAny rest d [] = false
+clashesAny rest d (e ∷ es) = clash rest d e || clashesAny rest d es
 
 -- the doses of the records from index i on, behind the earlier ones; or 8 with "the record index of the first D that overlaps an earlier one"
-unfoldable pub noClash : List Dose → ℕ → List Entry → Reading (List Dose)
-noClash earlier i [] = read earlier
-noClash earlier i (fansEntry f ∷ es) = noClash earlier (suc i) es
-noClash earlier i (doseEntry d ∷ es) = pick (clashesAny d earlier) (refused 8 i) (noClash (earlier ++ d ∷ []) (suc i) es)
+unfoldable pub noClash : ℕ → List Dose → ℕ → List Entry → Reading (List Dose)
+noClash rest earlier i [] = read earlier
+noClash rest earlier i (fansEntry f ∷ es) = noClash rest earlier (suc i) es
+noClash rest earlier i (doseEntry d ∷ es) = pick (clashesAny rest d earlier) (refused 8 i) (noClash rest (earlier ++ d ∷ []) (suc i) es)
 
 -- the order with the fans of an F record
 abbrev pub orderWith : List Fans → List Dose → Order
 orderWith [] ds = record { fans = 0; topGrams = 0; topSeconds = 0; doses = ds }
 orderWith (f ∷ fs) ds = record { fans = f .fans; topGrams = f .topGrams; topSeconds = f .topSeconds; doses = ds }
 
--- 6 "F records not exactly one", 7 "more than 24 doses", 8
+-- what all records come to; the F may stand behind the doses
+abbrev pub orderIn : List Entry → Order
+orderIn es = orderWith (fansIn es) (dosesIn es)
+
+-- the rest that an order asks for between windows of one bay: "touching is allowed", so none
+unfoldable pub restOf : Order → ℕ
+restOf o = 0
+
+-- 6 "F records not exactly one", 7 "more than 24 doses", 8 by the order's own rest
 unfoldable pub orderOf : List Entry → Reading Order
 orderOf es =
     pick (eqb (length (fansIn es)) 1)
-    (pick (leb (length (dosesIn es)) 24) (andThen (noClash [] 0 es) (λ ds. read (orderWith (fansIn es) ds))) (refused 7 0))
+    (pick (leb (length (dosesIn es)) 24) (andThen (noClash (restOf (orderIn es)) [] 0 es) (λ ds. read (orderWith (fansIn es) ds))) (refused 7 0))
     (refused 6 0)
 
 -- 2 "order length no multiple of 32, or over 1,600", "then record by record 3, 4, 5 in that order, then 6, 7, 8"

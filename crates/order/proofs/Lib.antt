@@ -1,6 +1,6 @@
 pub mod Cases
 pub mod Columns
-pub mod Laws
+pub mod Firsts
 pub mod Takes
 pub mod Walks
 pub mod Settles

@@ -2,15 +2,14 @@
 use Prim.Native.Nat.{ℕ, suc, _+_, _-_, _<_, _≤_}
 use mathlib.Core.Path.{_≡_, refl, sym, ap, _∙_}
 use mathlib.Core.Bool.{Bool, true, false}
-use mathlib.Core.List.{List, [], _∷_, _++_}
+use mathlib.Core.List.{List, [], _∷_, _++_, append-assoc, append-nil}
 use native.Mathlib.Omega.{arith}
-use native.Mathlib.Numerals.{add-one}
 use native.Mathlib.Nat.{zero-add}
 use borrow.Author.Tests.{leb-true, eqb-true, eq-eqb, ne-eqb}
-use lib.Dec.{eqb, leb, eqb·suc-zero}
+use lib.Dec.{eqb, leb, ltb, eqb·suc-zero}
 use lib.ListN.{length, getD, length-append}
 use Rattle.model.specs.Records.{pick, Reading, read, refused, andThen}
-use Rattle.model.specs.Orders.{fansEntry, doseEntry, noDose, fansIn, dosesIn, noClash, clashesAny, orderOf, orderWith, readOrder}
+use Rattle.model.specs.Orders.{fansEntry, doseEntry, noDose, fansIn, dosesIn, noClash, orderWith, orderIn, restOf, orderOf, readOrder}
 use Rattle.model.specs.Orders as orders
 use Rattle.order.specs.declared.Order.{Order}
 use Rattle.order.specs.declared.Fans.{Fans}
@@ -18,10 +17,11 @@ use Rattle.order.specs.declared.Dose.{Dose}
 use Rattle.order.specs.declared.Gathered.{Gathered}
 use Rattle.order.specs.declared.Walked.{Walked}
 use Rattle.order.specs.declared.Reading as code
-use Rattle.order.specs.Held.{asDose, heldFans, heldDose, doseHeld, dosesFrom, dosesHeld, asOrder, column, heldOrder, noOrder, heldReading, asReading, ReadFrom}
-use Rattle.order.specs.Gathered.{noRecords, withDose, withFans, withDoseAt, marked, adding, walkedFrom, settled, refusedReading}
+use Rattle.order.specs.Held.{heldFans, heldDose, doseHeld, dosesFrom, dosesHeld, asOrder, column, heldOrder, noOrder, heldReading, asReading, ReadFrom}
+use Rattle.order.specs.Gathered.{noRecords, withDose, withPlace, withFans, withDoseAt, adding, walkedFrom, firstOf, clashesEarlier, firstClash, clashed, settled, refusedReading}
 use Rattle.order.proofs.Columns.{column-set, column-at, run-all}
 use Rattle.order.proofs.Cases.{picked, at-off, at-on}
+use Rattle.order.proofs.Firsts.{placesIn, found, first-found}
 use Rattle.order.proofs.Walks.{Each, reads, refuses, Any, each-read}
 
 -- ---- the doses that an order holds
@@ -54,6 +54,12 @@ dose-at o ds k h l =
 pub doses-held : (o : Order) (ds : List orders.Dose) → Holds o ds → length ds ≤ 24 → dosesHeld o ≡ ds
 unfolding dosesFrom
 doses-held o ds h l = ap (dosesFrom o 0) (h .count) ∙ run-all (doseHeld o) ds noDose (λ k. dose-at o ds k h l)
+
+pub as-held : (o : orders.Order) → length (o .doses) ≤ 24 → asOrder (heldOrder o) ≡ o
+unfolding asOrder heldOrder
+as-held o few =
+    ap (λ (l : List orders.Dose). record { fans = o .fans; topGrams = o .topGrams; topSeconds = o .topSeconds; doses = l })
+    (doses-held (heldOrder o) (o .doses) (holds-held o) few)
 
 holds-more : (o : Order) (ds : List orders.Dose) (d : orders.Dose) → Holds o ds → length ds < 24 → Holds (withDose o (heldDose d)) (ds ++ d ∷ [])
 unfolding withDose
@@ -101,47 +107,48 @@ head-add (fansEntry f ∷ es) s k = head-add es (withFans s (heldFans f)) (suc k
 head-add (doseEntry d ∷ es) s k =
     head-add es (withDoseAt s (heldDose d) k) (suc k) ∙ ap (λ (x : Fans). last x (fansIn es)) (head-kept (s .order) (heldDose d))
 
--- ---- the first clash
+-- ---- the doses gathered, and their places
 
-mark-kept : (o : Order) (d : Dose) (mark k p : ℕ) → mark ≡ suc p → marked o d mark k ≡ suc p
-unfolding marked
-mark-kept o d mark k p e = sym (at-off (λ (n : ℕ). n) _ _ (sym (ne-eqb mark 0 (λ (z : mark ≡ 0). omega arith))) (sym e))
+-- an array of record indexes
+abbrev indexes : List ℕ → List ℕ
+indexes = column (λ (k : ℕ). k) 24
 
-mark-new : (o : Order) (d : Dose) (mark k : ℕ) → mark ≡ 0 → clashesAny (asDose d) (dosesHeld o) ≡ true → marked o d mark k ≡ suc k
-unfolding marked
-mark-new o d mark k m e = sym (at-on (λ (n : ℕ). n) _ _ (sym (eq-eqb mark 0 m)) (at-on (λ (n : ℕ). n) _ _ (sym e) (sym (add-one k))))
+-- the doses and the place of each are gathered
+record HoldsAt (s : Gathered) (ds : List orders.Dose) (ps : List ℕ) : Type 0 where
+  doses : Holds (s .order) ds
+  places : s .places ≡ indexes ps
+  each : length ps ≡ length ds
 
-mark-none : (o : Order) (d : Dose) (mark k : ℕ) → mark ≡ 0 → clashesAny (asDose d) (dosesHeld o) ≡ false → marked o d mark k ≡ 0
-unfolding marked
-mark-none o d mark k m e = sym (at-on (λ (n : ℕ). n) _ _ (sym (eq-eqb mark 0 m)) (at-off (λ (n : ℕ). n) _ _ (sym e) refl))
+place-more : (places : List ℕ) (count k : ℕ) (ps : List ℕ) → places ≡ indexes ps → count ≡ length ps → length ps < 24
+    → withPlace places count k ≡ indexes (ps ++ k ∷ [])
+unfolding withPlace
+place-more places count k ps e n l =
+    picked (λ (p : List ℕ). p ≡ indexes (ps ++ k ∷ [])) (leb 24 count) _ _
+    (λ t. let q : 24 ≤ count = leb-true 24 count t in absurd (let z : ⊥ = omega arith in z))
+    (λ t. column-set (λ (k : ℕ). k) ps k e n l)
 
-mark-stays : (es : List orders.Entry) (s : Gathered) (k p : ℕ) → s .mark ≡ suc p → adding s k es .mark ≡ suc p
-unfolding adding withFans withDoseAt
-mark-stays [] s k p e = e
-mark-stays (fansEntry f ∷ es) s k p e = mark-stays es (withFans s (heldFans f)) (suc k) p e
-mark-stays (doseEntry d ∷ es) s k p e = mark-stays es (withDoseAt s (heldDose d) k) (suc k) p (mark-kept (s .order) (heldDose d) (s .mark) k p e)
-
--- what was gathered agrees with what was found
-abbrev Agrees : Gathered → Reading (List orders.Dose) → Type 0
-Agrees t (read ds) = (t .mark ≡ 0) × Holds (t .order) ds
-Agrees t (refused n p) = (n ≡ 8) × (t .mark ≡ suc p)
-
-agrees : (es : List orders.Entry) (s : Gathered) (k : ℕ) (ds : List orders.Dose) → Holds (s .order) ds → s .mark ≡ 0
-    → length ds + length (dosesIn es) ≤ 24 → Agrees (adding s k es) (noClash ds k es)
-unfolding adding noClash dosesIn withFans withDoseAt
-agrees [] s k ds h m l = (m, h)
-agrees (fansEntry f ∷ es) s k ds h m l =
-    agrees es (withFans s (heldFans f)) (suc k) ds
-    (record { count = h .count; bay = h .bay; release = h .release; deadline = h .deadline; grams = h .grams })
-    m l
-agrees (doseEntry d ∷ es) s k ds h m l =
-    let c = ap (clashesAny d) (doses-held (s .order) ds h (omega arith)) in
-    picked (Agrees (adding (withDoseAt s (heldDose d) k) (suc k) es)) (clashesAny d ds) _ _
-    (λ e. (refl, mark-stays es (withDoseAt s (heldDose d) k) (suc k) k (mark-new (s .order) (heldDose d) (s .mark) k m (c ∙ e))))
-    (λ e.
-    agrees es (withDoseAt s (heldDose d) k) (suc k) (ds ++ d ∷ [])
-    (holds-more (s .order) ds d h (omega arith))
-    (mark-none (s .order) (heldDose d) (s .mark) k m (c ∙ e))
+gathers : (es : List orders.Entry) (s : Gathered) (k : ℕ) (ds : List orders.Dose) (ps : List ℕ) → HoldsAt s ds ps
+    → length ds + length (dosesIn es) ≤ 24 → HoldsAt (adding s k es) (ds ++ dosesIn es) (ps ++ placesIn k es)
+unfolding placesIn adding dosesIn withFans withDoseAt
+gathers [] s k ds ps h l = rw (append-nil ds, append-nil ps) h
+gathers (fansEntry f ∷ es) s k ds ps h l =
+    let d = h .doses in
+    gathers es (withFans s (heldFans f)) (suc k) ds ps
+    (record {
+      doses = record { count = d .count; bay = d .bay; release = d .release; deadline = d .deadline; grams = d .grams };
+      places = h .places;
+      each = h .each;
+    })
+    l
+gathers (doseEntry d ∷ es) s k ds ps h l =
+    let few : length ds < 24 = omega arith in
+    rw (append-assoc ds (d ∷ []) (dosesIn es), append-assoc ps (k ∷ []) (placesIn (suc k) es)) at
+    (gathers es (withDoseAt s (heldDose d) k) (suc k) (ds ++ d ∷ []) (ps ++ k ∷ [])
+    (record {
+      doses = holds-more (s .order) ds d (h .doses) few;
+      places = place-more (s .places) (s .order .count) k ps (h .places) (h .doses .count ∙ sym (h .each)) (omega (arith, h .each));
+      each = omega (arith, h .each, length-append ds (d ∷ []), length-append ps (k ∷ []));
+    })
     (omega (arith, length-append ds (d ∷ []))))
 
 -- ---- the checks behind the last record
@@ -169,17 +176,6 @@ same-order o f ds e h =
 abbrev done : Order → code.Reading
 done o = record { number = 0; place = 0; order = o }
 
-accepted : (t : Gathered) (x : Reading (List orders.Dose)) (fs : List orders.Fans) → length fs ≡ 1 → headOf (t .order) ≡ last (headOf noOrder) fs → Agrees t x
-    → pick (eqb (t .mark) 0) (done (t .order)) (refusedReading 8 (t .mark - 1)) ≡ heldReading (andThen x (λ ds. read (orderWith fs ds)))
-unfolding heldReading
-accepted t (read ds) fs l e (m, h) =
-    let (f, p, q) = one-head (headOf noOrder) fs l in
-    sym (at-on (λ (r : code.Reading). r) _ _ (sym (eq-eqb (t .mark) 0 m)) refl)
-    ∙ ap done (same-order (t .order) f ds (e ∙ q) h ∙ ap (λ (gs : List orders.Fans). heldOrder (orderWith gs ds)) (sym p))
-accepted t (refused n p) fs l e (m, h) =
-    let w : t .mark - 1 ≡ p = omega arith in
-    sym (at-off (λ (r : code.Reading). r) _ _ (sym (ne-eqb (t .mark) 0 (λ (z : t .mark ≡ 0). omega arith))) refl) ∙ rw (w, m)
-
 checks : {h n : ℕ} (f d : ℕ) (a : code.Reading) (x : Reading orders.Order) → h ≡ f → n ≡ d → (f ≡ 1 → d ≤ 24 → a ≡ heldReading x)
     → pick (eqb h 1) (pick (leb n 24) a (refusedReading 7 0)) (refusedReading 6 0)
     ≡ heldReading (pick (eqb f 1) (pick (leb d 24) x (refused 7 0)) (refused 6 0))
@@ -191,23 +187,53 @@ checks f d a x p q k = rw (p, q) (go (eqb f 1) (leb d 24) refl refl) where
   go true false e g = refl
   go false u e g = refl
 
+-- the answer for a first clash k, or none
+clashed-held : (s : Gathered) (fs : List orders.Fans) (ds : List orders.Dose) (ps : List ℕ) (k : ℕ) → s .order ≡ heldOrder (orderWith fs ds)
+    → s .order .count ≡ length ds → getD (s .places) k 0 ≡ getD ps k 0
+    → clashed s k ≡ heldReading (andThen (found ds ps k) (λ l. read (orderWith fs l)))
+unfolding heldReading
+clashed-held s fs ds ps k e n p =
+    ap (λ (c : ℕ). pick (ltb k c) (refusedReading 8 (getD (s .places) k 0)) (done (s .order))) n
+    ∙ ap (λ (q : ℕ). pick (ltb k (length ds)) (refusedReading 8 q) (done (s .order))) p
+    ∙ go (ltb k (length ds))
+  where
+    go : (b : Bool) → pick b (refusedReading 8 (getD ps k 0)) (done (s .order))
+        ≡ heldReading (andThen (pick b (refused 8 (getD ps k 0)) (read ds)) (λ l. read (orderWith fs l)))
+    go true = refl
+    go false = ap done e
+
+-- one F and at most 24 doses: what was gathered holds the order of the records, so that its rest, its count, its first clash and
+-- the place kept for that dose are those of the records
+settled-few : (es : List orders.Entry) → length (fansIn es) ≡ 1 → length (dosesIn es) ≤ 24
+    → (let t = adding noRecords 0 es in clashed t (firstClash (restOf (asOrder (t .order))) (t .order)))
+    ≡ heldReading (andThen (noClash (restOf (orderIn es)) [] 0 es) (λ ds. read (orderWith (fansIn es) ds)))
+unfolding noRecords
+settled-few es one few =
+    let t = adding noRecords 0 es in
+    let ds = dosesIn es in
+    let ps = placesIn 0 es in
+    let h = gathers es noRecords 0 [] [] (record { doses = holds-held _; places = refl; each = refl }) (omega arith) in
+    let (f, p, q) = one-head (headOf noOrder) (fansIn es) one in
+    let own = same-order (t .order) f ds (head-add es noRecords 0 ∙ q) (h .doses) in
+    let again = ap (λ (fs : List orders.Fans). orderWith fs ds) (sym p) in
+    let rest = restOf (orderIn es) in
+    let k = firstOf (clashesEarlier rest (t .order)) 0 (length ds) in
+    let place = ap (λ (l : List ℕ). getD l k 0) (h .places) ∙ column-at (λ (k : ℕ). k) 0 refl 24 ps k (omega (arith, h .each)) in
+    ap (λ (o : orders.Order). clashed t (firstClash (restOf o) (t .order))) (ap asOrder own ∙ as-held (orderWith (f ∷ []) ds) few ∙ again)
+    ∙ ap (λ (n : ℕ). clashed t (firstOf (clashesEarlier rest (t .order)) 0 n)) (h .doses .count)
+    ∙ clashed-held t (fansIn es) ds ps k (own ∙ ap heldOrder again) (h .doses .count) place
+    ∙ ap (λ (x : Reading (List orders.Dose)). heldReading (andThen x (λ l. read (orderWith (fansIn es) l))))
+    (sym (first-found rest (t .order) ds (λ k. dose-at (t .order) ds k (h .doses) few) es [] [] 0 refl refl))
+
 pub settles : (es : List orders.Entry) → settled (adding noRecords 0 es) ≡ heldReading (orderOf es)
 unfolding settled orderOf noRecords
 settles es =
     checks (length (fansIn es)) (length (dosesIn es)) _ _
     (heads-add es noRecords 0 ∙ zero-add _)
     (doses-add es noRecords 0 ∙ zero-add _)
-    (λ l few.
-    accepted (adding noRecords 0 es) (noClash [] 0 es) (fansIn es) l (head-add es noRecords 0)
-    (agrees es noRecords 0 [] (holds-held _) refl (omega arith)))
+    (settled-few es)
 
 -- ---- the answer
-
-pub as-held : (o : orders.Order) → length (o .doses) ≤ 24 → asOrder (heldOrder o) ≡ o
-unfolding asOrder heldOrder
-as-held o few =
-    ap (λ (l : List orders.Dose). record { fans = o .fans; topGrams = o .topGrams; topSeconds = o .topSeconds; doses = l })
-    (doses-held (heldOrder o) (o .doses) (holds-held o) few)
 
 as-reading : (x : Reading orders.Order) → Each (λ (o : orders.Order). length (o .doses) ≤ 24) x → asReading (heldReading x) ≡ x
 unfolding heldReading

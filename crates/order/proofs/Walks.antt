@@ -9,7 +9,7 @@ use borrow.Author.Tests.{leb-true, leb-false}
 use lib.Dec.{eqb, leb}
 use lib.ListN.{length, getD, length-append}
 use Rattle.model.specs.Records.{pick, Reading, read, refused, andThen, blankAt, fansParts, doseParts, recordAt, readFrom}
-use Rattle.model.specs.Orders.{fansEntry, doseEntry, fansOf, doseOf, fansFit, doseFits, checked, entryOf, fansIn, dosesIn, noClash, clashesAny, orderOf, orderWith, readOrder}
+use Rattle.model.specs.Orders.{fansEntry, doseEntry, fansOf, doseOf, fansFit, doseFits, checked, entryOf, fansIn, dosesIn, noClash, clashesAny, orderWith, orderIn, restOf, orderOf, readOrder}
 use Rattle.model.specs.Orders as orders
 use Rattle.order.proofs.Cases.{picked}
 use Rattle.order.specs.declared.Entry.{Entry}
@@ -18,7 +18,7 @@ use Rattle.order.specs.declared.Order.{Order}
 use Rattle.order.specs.declared.Dose.{Dose}
 use Rattle.order.specs.declared.Gathered.{Gathered}
 use Rattle.order.specs.declared.Walked.{Walked}
-use Rattle.order.specs.Held.{heldEntry, heldOrder}
+use Rattle.order.specs.Held.{heldFans, heldDose, heldEntry, heldOrder}
 use Rattle.order.specs.Gathered.{went, noRecords, withDose, withFans, withDoseAt, taken, takenOther, takenRefused, adding, walkedFrom}
 
 -- ---- a refusal has a number
@@ -59,15 +59,15 @@ each-from bytes i zero = reads {a = []} (omega arith)
 each-from bytes i (suc n) =
     each-then _ (each-entry _ i) (λ a p. each-then _ (each-from bytes (suc i) n) (λ l q. reads q))
 
-each-clash : (es : List orders.Entry) (ds : List orders.Dose) (i : ℕ)
-    → Each (λ (l : List orders.Dose). length l ≡ length ds + length (dosesIn es)) (noClash ds i es)
+each-clash : (rest : ℕ) (es : List orders.Entry) (ds : List orders.Dose) (i : ℕ)
+    → Each (λ (l : List orders.Dose). length l ≡ length ds + length (dosesIn es)) (noClash rest ds i es)
 unfolding noClash dosesIn
-each-clash [] ds i = reads {a = ds} (omega arith)
-each-clash (fansEntry f ∷ es) ds i = each-clash es ds (suc i)
-each-clash (doseEntry d ∷ es) ds i =
-    each-pick (clashesAny d ds) refuses
+each-clash rest [] ds i = reads {a = ds} (omega arith)
+each-clash rest (fansEntry f ∷ es) ds i = each-clash rest es ds (suc i)
+each-clash rest (doseEntry d ∷ es) ds i =
+    each-pick (clashesAny rest d ds) refuses
     (each-map (λ (l : List orders.Dose) (e : length l ≡ length (ds ++ d ∷ []) + length (dosesIn es)). omega (arith, length-append ds (d ∷ [])))
-    (each-clash es (ds ++ d ∷ []) (suc i)))
+    (each-clash rest es (ds ++ d ∷ []) (suc i)))
 
 with-doses : (fs : List orders.Fans) (ds : List orders.Dose) → orderWith fs ds .doses ≡ ds
 with-doses [] ds = refl
@@ -80,7 +80,7 @@ each-order es =
     (picked (Each (λ (o : orders.Order). length (o .doses) ≤ 24)) (leb (length (dosesIn es)) 24) _ (refused 7 0)
     (λ e.
     let few : length (dosesIn es) ≤ 24 = leb-true (length (dosesIn es)) 24 e in
-    each-then _ (each-clash es [] 0) (λ l q. let n : length l ≤ 24 = omega arith in reads {a = orderWith (fansIn es) l} (rw (with-doses (fansIn es) l) n)))
+    each-then _ (each-clash (restOf (orderIn es)) es [] 0) (λ l q. let n : length l ≤ 24 = omega arith in reads {a = orderWith (fansIn es) l} (rw (with-doses (fansIn es) l) n)))
     (λ e. refuses))
     refuses
 
@@ -98,12 +98,23 @@ with-few o d h =
     (λ e. let q : o .count < 24 = leb-false 24 (o .count) e in omega arith)
 
 -- a record adds at most one to each count
-pub counts : (s : Gathered) (k : ℕ) (e : Entry) → s .order .count ≤ 24
-    → (taken s k e .gathered .heads ≤ s .heads + 1) × (taken s k e .gathered .doses ≤ s .doses + 1) × (taken s k e .gathered .order .count ≤ 24)
-unfolding taken takenOther takenRefused withFans withDoseAt noRecords heldOrder
-counts s k (is.Fans f) h = (omega arith, omega arith, omega arith)
-counts s k (is.Dose d) h = (omega arith, omega arith, with-few (s .order) d h)
-counts s k (is.Refused x) h = (omega arith, omega arith, omega arith)
+pub counts : (s : Gathered) (k : ℕ) (e : Entry) → (taken s k e .gathered .heads ≤ s .heads + 1) × (taken s k e .gathered .doses ≤ s .doses + 1)
+unfolding taken takenOther takenRefused withFans withDoseAt noRecords
+counts s k (is.Fans f) = (omega arith, omega arith)
+counts s k (is.Dose d) = (omega arith, omega arith)
+counts s k (is.Refused x) = (omega arith, omega arith)
+
+-- no number of records fills the order past its room
+few-added : (es : List orders.Entry) (s : Gathered) (k : ℕ) → s .order .count ≤ 24 → adding s k es .order .count ≤ 24
+unfolding adding withFans withDoseAt
+few-added [] s k h = h
+few-added (fansEntry f ∷ es) s k h = few-added es (withFans s (heldFans f)) (suc k) h
+few-added (doseEntry d ∷ es) s k h = few-added es (withDoseAt s (heldDose d) k) (suc k) (with-few (s .order) (heldDose d) h)
+
+pub few-walked : {w : Walked} (x : Reading (List orders.Entry)) → w ≡ walkedFrom x 0 noRecords → w .gathered .order .count ≤ 24
+unfolding walkedFrom noRecords heldOrder
+few-walked (read es) e = rw e (few-added es noRecords 0 (omega arith))
+few-walked (refused n p) e = rw e (omega arith)
 
 -- ---- a turn of the walk
 
@@ -145,6 +156,6 @@ pub ends : (bytes : List ℕ) (k m : ℕ) (s : Gathered) → m ≡ 0 → went s 
 unfolding readFrom walkedFrom adding
 ends bytes k m s e = rw e
 
-pub empty : {s : Gathered} → s ≡ noRecords → (s .heads ≡ 0) × (s .doses ≡ 0) × (s .order .count ≡ 0)
-unfolding noRecords heldOrder
-empty e = rw e (refl, refl, refl)
+pub empty : {s : Gathered} → s ≡ noRecords → (s .heads ≡ 0) × (s .doses ≡ 0)
+unfolding noRecords
+empty e = rw e (refl, refl)

@@ -1,14 +1,14 @@
 -- What the reader's steps come to, record by record. Only the contracts of private functions cite this page.
 use mathlib.Core.Bool.{Bool}
 use mathlib.Core.List.{List, [], _∷_}
-use Prim.Native.Nat.{ℕ, suc, _+_, _-_}
-use lib.Dec.{eqb, leb}
-use lib.ListN.{set}
+use Prim.Native.Nat.{ℕ, zero, suc, _+_}
+use lib.Dec.{eqb, leb, ltb}
+use lib.ListN.{getD, set}
 use Rattle.model.specs.Records.{pick, read, refused, blankAt, fansParts, doseParts}
 use Rattle.model.specs.Records as records
-use Rattle.model.specs.Orders.{fansEntry, doseEntry, fansOf, doseOf, fansFit, doseFits, checked, clashesAny}
+use Rattle.model.specs.Orders.{fansEntry, doseEntry, fansOf, doseOf, fansFit, doseFits, checked, clash, restOf}
 use Rattle.model.specs.Orders as orders
-use Rattle.order.specs.Held.{asDose, heldFans, heldDose, heldEntry, dosesHeld, noOrder}
+use Rattle.order.specs.Held.{heldFans, heldDose, heldEntry, doseHeld, asOrder, column, noOrder}
 use Rattle.order.specs.declared.Fans.{Fans}
 use Rattle.order.specs.declared.Dose.{Dose}
 use Rattle.order.specs.declared.Entry.{Entry}
@@ -44,18 +44,18 @@ withDose o d = pick (leb 24 (o .count)) o
       grams = set (o .grams) (o .count) (d .grams);
     })
 
--- the mark after dose d of record k
-unfoldable pub marked : Order → Dose → ℕ → ℕ → ℕ
-marked o d mark k = pick (eqb mark 0) (pick (clashesAny (asDose d) (dosesHeld o)) (k + 1) 0) mark
+-- the record indexes of so many doses, and index k for one more
+unfoldable pub withPlace : List ℕ → ℕ → ℕ → List ℕ
+withPlace places count k = pick (leb 24 count) places (set places count k)
 
 unfoldable pub noRecords : Gathered
-noRecords = record { heads = 0; doses = 0; mark = 0; order = noOrder }
+noRecords = record { heads = 0; doses = 0; places = column (λ (k : ℕ). k) 24 []; order = noOrder }
 
 unfoldable pub withFans : Gathered → Fans → Gathered
 withFans s f = record {
   heads = s .heads + 1;
   doses = s .doses;
-  mark = s .mark;
+  places = s .places;
   order = record {
     fans = f .fans;
     «top_grams» = f .«top_grams»;
@@ -70,7 +70,7 @@ withFans s f = record {
 
 unfoldable pub withDoseAt : Gathered → Dose → ℕ → Gathered
 withDoseAt s d k =
-    record { heads = s .heads; doses = s .doses + 1; mark = marked (s .order) d (s .mark) k; order = withDose (s .order) d }
+    record { heads = s .heads; doses = s .doses + 1; places = withPlace (s .places) (s .order .count) k; order = withDose (s .order) d }
 
 abbrev pub went : Gathered → Walked
 went s = record { number = 0; place = 0; gathered = s }
@@ -105,13 +105,36 @@ walkedFrom (refused number place) k s = record { number = number; place = place;
 
 -- ---- the checks behind the last record
 
+-- the first of n numbers from k on that the test takes; k + n where it takes none
+unfoldable pub firstOf : (ℕ → Bool) → ℕ → ℕ → ℕ
+firstOf test k zero = k
+firstOf test k (suc n) = pick (test k) k (firstOf test (suc k) n)
+
+-- dose k clashes with dose j
+abbrev pub dosesClash : ℕ → Order → ℕ → ℕ → Bool
+dosesClash rest o k j = clash rest (doseHeld o k) (doseHeld o j)
+
+-- the first dose before dose k that clashes with it; k where none does
+abbrev pub earlierClash : ℕ → Order → ℕ → ℕ
+earlierClash rest o k = firstOf (dosesClash rest o k) 0 k
+
+-- dose k clashes with an earlier one
+abbrev pub clashesEarlier : ℕ → Order → ℕ → Bool
+clashesEarlier rest o k = ltb (earlierClash rest o k) k
+
+-- the first dose that clashes with an earlier one; the count where none does
+abbrev pub firstClash : ℕ → Order → ℕ
+firstClash rest o = firstOf (clashesEarlier rest o) 0 (o .count)
+
 abbrev pub refusedReading : ℕ → ℕ → Reading
 refusedReading number place = record { number = number; place = place; order = noOrder }
+
+-- 8 with the place of dose k, where k is a dose; or the order
+abbrev pub clashed : Gathered → ℕ → Reading
+clashed s k = pick (ltb k (s .order .count)) (refusedReading 8 (getD (s .places) k 0)) (record { number = 0; place = 0; order = s .order })
 
 unfoldable pub settled : Gathered → Reading
 settled s =
     pick (eqb (s .heads) 1)
-    (pick (leb (s .doses) 24)
-    (pick (eqb (s .mark) 0) (record { number = 0; place = 0; order = s .order }) (refusedReading 8 (s .mark - 1)))
-    (refusedReading 7 0))
+    (pick (leb (s .doses) 24) (clashed s (firstClash (restOf (asOrder (s .order))) (s .order))) (refusedReading 7 0))
     (refusedReading 6 0)

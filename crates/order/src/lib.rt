@@ -3,13 +3,14 @@ mod record; // record.rt: one record
 
 use record::record_at;
 ghost use mathlib.Core.Path.{_≡_};
-ghost use Prim.Native.Nat.{_<_, _≤_};
+ghost use Prim.Native.Nat.{_+_, _<_, _≤_};
 ghost use lib.ListN.{length};
 ghost use Rattle.model.specs.Records.{readAll};
-ghost use Rattle.model.specs.Orders.{entryOf, clash, clashesAny};
-ghost use Rattle.order.specs.Held.{asDose, heldEntry, dosesHeld, noOrder, ReadFrom};
-ghost use Rattle.order.specs.Gathered.{noRecords, withDose, marked, withFans, withDoseAt};
-ghost use Rattle.order.specs.Gathered.{taken, takenOther, takenRefused, settled, walkedFrom, refusedReading};
+ghost use Rattle.model.specs.Orders.{entryOf, clash, restOf};
+ghost use Rattle.order.specs.Held.{asDose, asOrder, doseHeld, heldEntry, noOrder, ReadFrom};
+ghost use Rattle.order.specs.Gathered.{noRecords, withDose, withPlace, withFans, withDoseAt};
+ghost use Rattle.order.specs.Gathered.{taken, takenOther, takenRefused, walkedFrom};
+ghost use Rattle.order.specs.Gathered.{earlierClash, firstClash, settled, refusedReading};
 
 // "number of fans, 1 to 8; top grams, top seconds, each 1 to 1,000,000"
 pub struct Fans {
@@ -57,12 +58,12 @@ pub struct Reading {
     pub order: Order,
 }
 
-// What the records so far come to: F records, D records, the first 24 doses, and 1 more than the index of the first D
-// that overlaps an earlier one of these (0: none does; more doses than 24 are refused before).
+// What the records so far come to: F records, D records, the last F and the first 24 doses as an order, and the record
+// index of each of these doses. Rules for the doses wait until all records are there: their F may stand behind them.
 struct Gathered {
     heads: usize,
     doses: usize,
-    mark: usize,
+    places: [u8; 24],
     order: Order,
 }
 
@@ -71,41 +72,6 @@ struct Walked {
     number: u32,
     place: usize,
     gathered: Gathered,
-}
-
-// "two doses of one bay with overlapping windows (touching is allowed)"
-fn dose_clash(x: Dose, y: Dose) -> bool
-    ensures { λ r. ⌜ r ≡ clash (asDose x) (asDose y) ⌝ }
-{
-    if x.bay != y.bay {
-        return false;
-    }
-    if x.deadline <= y.release {
-        return false;
-    }
-    x.release < y.deadline
-}
-
-// Whether a dose clashes with one that the order holds.
-fn clashes(o: Order, d: Dose) -> bool
-    requires { ⌜ o .count ≤ 24 ⌝ }
-    ensures { λ r. ⌜ r ≡ clashesAny (asDose d) (dosesHeld o) ⌝ }
-{
-    let n = o.count;
-    let mut j = 0;
-    while j < n {
-        let e = Dose {
-            bay: o.bay[j],
-            release: o.release[j],
-            deadline: o.deadline[j],
-            grams: o.grams[j],
-        };
-        if dose_clash(d, e) {
-            return true;
-        }
-        j += 1;
-    }
-    false
 }
 
 fn no_order() -> Order
@@ -140,18 +106,17 @@ fn with_dose(o: Order, d: Dose) -> Order
     n
 }
 
-// The first clash keeps its mark: "the record index of the first D that overlaps an earlier one".
-fn mark_of(o: Order, d: Dose, mark: usize, k: usize) -> usize
-    requires { ⌜ (o .count ≤ 24) × (k < 50) ⌝ }
-    ensures { λ r. ⌜ r ≡ marked o d mark k ⌝ }
+// The record indexes of the doses with one more, where there is room for it.
+fn with_place(places: [u8; 24], count: usize, k: usize) -> [u8; 24]
+    requires { ⌜ k < 50 ⌝ }
+    ensures { λ r. ⌜ r ≡ withPlace places count k ⌝ }
 {
-    if mark != 0 {
-        return mark;
+    if 24 <= count {
+        return places;
     }
-    if clashes(o, d) {
-        return k + 1;
-    }
-    0
+    let mut n = places;
+    n[count] = k as u8;
+    n
 }
 
 fn no_records() -> Gathered
@@ -161,7 +126,7 @@ fn no_records() -> Gathered
     Gathered {
         heads: 0,
         doses: 0,
-        mark: 0,
+        places: [0; 24],
         order: o,
     }
 }
@@ -174,25 +139,27 @@ fn add_fans(s: Gathered, f: Fans) -> Gathered
     o.fans = f.fans;
     o.top_grams = f.top_grams;
     o.top_seconds = f.top_seconds;
+    let p = s.places;
     Gathered {
         heads: s.heads + 1,
         doses: s.doses,
-        mark: s.mark,
+        places: p,
         order: o,
     }
 }
 
 fn add_dose(s: Gathered, d: Dose, k: usize) -> Gathered
-    requires { ⌜ (s .order .count ≤ 24) × (s .doses < 50) × (k < 50) ⌝ }
+    requires { ⌜ (s .doses < 50) × (k < 50) ⌝ }
     ensures { λ r. ⌜ r ≡ withDoseAt s d k ⌝ }
 {
     let o = s.order;
-    let m = mark_of(o, d, s.mark, k);
     let n = with_dose(o, d);
+    let places = s.places;
+    let p = with_place(places, o.count, k);
     Gathered {
         heads: s.heads,
         doses: s.doses + 1,
-        mark: m,
+        places: p,
         order: n,
     }
 }
@@ -233,7 +200,7 @@ fn add_other(s: Gathered, e: Entry) -> Walked
 
 // What was gathered and record k, read from its 32 bytes; or the record's refusal.
 fn add_record(s: Gathered, r: &[u8], k: usize) -> Walked
-    requires { ⌜ (length (now r) ≡ 32) × (s .order .count ≤ 24) × (s .doses < 50) × (s .heads < 50) × (k < 50) ⌝ }
+    requires { ⌜ (length (now r) ≡ 32) × (s .doses < 50) × (s .heads < 50) × (k < 50) ⌝ }
     ensures { λ w. ⌜ w ≡ taken s k (heldEntry (entryOf (now (r .entry)) k)) ⌝ }
 {
     let e = record_at(r, k);
@@ -285,8 +252,89 @@ fn refuse(number: u32, place: usize) -> Reading
     }
 }
 
+fn from_byte(x: u8) -> usize
+    ensures { λ r. ⌜ r ≡ x ⌝ }
+{
+    x as usize
+}
+
+// Dose k of an order.
+fn dose_at(o: Order, k: usize) -> Dose
+    requires { ⌜ k < 24 ⌝ }
+    ensures { λ d. ⌜ asDose d ≡ doseHeld o k ⌝ }
+{
+    Dose {
+        bay: o.bay[k],
+        release: o.release[k],
+        deadline: o.deadline[k],
+        grams: o.grams[k],
+    }
+}
+
+// The rest that an order asks for between windows of one bay: "touching is allowed", so none.
+fn rest_of(o: Order) -> u32
+    ensures { λ r. ⌜ r ≡ restOf (asOrder o) ⌝ }
+{
+    0
+}
+
+// The second at which the bay of a dose has rested behind it.
+fn rested(rest: u32, d: Dose) -> u64
+    ensures { λ r. ⌜ r ≡ d .deadline + rest ⌝ }
+{
+    (d.deadline as u64) + (rest as u64)
+}
+
+// Two doses of one bay with less than the rest between their windows; where it is 0, "overlapping windows (touching is allowed)".
+fn dose_clash(rest: u32, x: Dose, y: Dose) -> bool
+    ensures { λ r. ⌜ r ≡ clash rest (asDose x) (asDose y) ⌝ }
+{
+    if x.bay != y.bay {
+        return false;
+    }
+    if rested(rest, x) <= (y.release as u64) {
+        return false;
+    }
+    (x.release as u64) < rested(rest, y)
+}
+
+// The first dose before dose k that clashes with it; k where none does.
+fn earlier_clash(rest: u32, o: Order, k: usize) -> usize
+    requires { ⌜ k < 24 ⌝ }
+    ensures { λ j. ⌜ j ≡ earlierClash rest o k ⌝ }
+{
+    let d = dose_at(o, k);
+    let mut j = 0;
+    while j < k {
+        let e = dose_at(o, j);
+        if dose_clash(rest, d, e) {
+            return j;
+        }
+        j += 1;
+    }
+    k
+}
+
+// The first dose that clashes with an earlier one; the count where none does.
+fn first_clash(rest: u32, o: Order) -> usize
+    requires { ⌜ o .count ≤ 24 ⌝ }
+    ensures { λ k. ⌜ k ≡ firstClash rest o ⌝ }
+{
+    let n = o.count;
+    let mut k = 0;
+    while k < n {
+        let j = earlier_clash(rest, o, k);
+        if j < k {
+            return k;
+        }
+        k += 1;
+    }
+    n
+}
+
 // "then 6, 7, 8"
 fn settle(s: Gathered) -> Reading
+    requires { ⌜ s .order .count ≤ 24 ⌝ }
     ensures { λ r. ⌜ r ≡ settled s ⌝ }
 {
     if s.heads != 1 {
@@ -295,11 +343,13 @@ fn settle(s: Gathered) -> Reading
     if 24 < s.doses {
         return refuse(7, 0);
     }
-    let m = s.mark;
-    if m != 0 {
-        return refuse(8, m - 1);
-    }
     let o = s.order;
+    let rest = rest_of(o);
+    let k = first_clash(rest, o);
+    if k < o.count {
+        let place = from_byte(s.places[k]);
+        return refuse(8, place);
+    }
     Reading {
         number: 0,
         place: 0,

@@ -5,12 +5,12 @@ use borrow.Author.Needs.{needs}
 use Rattle.order.proofs.add_fans.Statement.{statement}
 use Rattle.order.proofs.add_fans.Tie as tie
 
-add-t4 : tie.Need-add-t4
-add-t4 c = search needs
+add-t5 : tie.Need-add-t5
+add-t5 c = search needs
 
 returns : tie.Need-returns
 unfolding withFans
 returns c = refl
 
 pub add-fans-spec : {M : Type 1} → statement M
-add-fans-spec = tie.close (tie.spec add-t4 returns)
+add-fans-spec = tie.close (tie.spec add-t5 returns)

@@ -4,7 +4,7 @@ use borrow.Author.Tests.{eq-eqb, ne-eqb, le-leb, lt-leb}
 use Rattle.model.specs.Orders.{readOrder}
 use Rattle.order.specs.Held.{heldReading}
 use Rattle.order.proofs.Cases.{and-off, and-on, at-off, at-on}
-use Rattle.order.proofs.Walks.{each-from}
+use Rattle.order.proofs.Walks.{few-walked, each-from}
 use Rattle.order.proofs.Settles.{answers, walk-refused, walk-settled}
 use borrow.Author.Needs.{needs}
 use Rattle.order.proofs.read_order.Statement.{statement}
@@ -38,7 +38,7 @@ returns-3 c =
     (c .refuse3 .ensures ∙ walk-refused _ (c .before .before .before .walk .ensures) (c .before .if3 .taken)))
 
 settle-requires : tie.Need-settle-requires
-settle-requires c κs = search needs
+settle-requires c κs = few-walked _ (c .before .before .before .walk .ensures)
 
 returns-4 : tie.Need-returns-4
 unfolding readOrder

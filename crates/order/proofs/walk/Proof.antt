@@ -17,7 +17,7 @@ use Rattle.order.proofs.walk.Statement.{statement}
 use Rattle.order.proofs.walk.Tie as tie
 
 abbrev Inv-loop : tie.InvT-loop
-Inv-loop bytes n s₀ k₀ s k = (k ≤ n) × (n ≡ length bytes / 32) × (s .heads ≤ k) × (s .doses ≤ k) × (s .order .count ≤ 24) × (walkedFrom (readFrom entryOf bytes k (n - k)) k s ≡ walkedFrom (readFrom entryOf bytes 0 n) 0 noRecords)
+Inv-loop bytes n s₀ k₀ s k = (k ≤ n) × (n ≡ length bytes / 32) × (s .heads ≤ k) × (s .doses ≤ k) × (walkedFrom (readFrom entryOf bytes k (n - k)) k s ≡ walkedFrom (readFrom entryOf bytes 0 n) 0 noRecords)
 
 abbrev μ-loop : tie.MeasureT-loop
 μ-loop bytes n s₀ k₀ s k = n - k
@@ -28,7 +28,7 @@ no-records-requires c κs = tt
 loop-holds : tie.Need-loop-holds Inv-loop μ-loop
 loop-holds c =
     let e = empty (c .no-records .ensures) in
-    (omega arith, refl, omega (arith, e .0), omega (arith, e .1), omega (arith, e .2), rw (sub-zero, c .no-records .ensures))
+    (omega arith, refl, omega (arith, e .0), omega (arith, e .1), rw (sub-zero, c .no-records .ensures))
 
 mul-a : tie.Need-mul-a Inv-loop μ-loop
 mul-a c = omega arith
@@ -51,14 +51,13 @@ add-record-requires c κs = (
   omega arith,
   omega arith,
   omega arith,
-  omega arith,
 )
 
 returns : tie.Need-returns Inv-loop μ-loop
 returns c =
     stops _ _ _ _ (omega arith)
     (c .before .before .add-record .ensures ∙ ap (λ (r : List ℕ). taken (c .before .before .before .before .before .loop .s) (c .before .before .before .before .before .loop .k) (heldEntry (entryOf r (c .before .before .before .before .before .loop .k)))) (record-part (c .before .before .before .before .before .before .before .before .args .bytes .now) (c .before .before .before .before .before .loop .k)))
-    (c .if1 .taken) ∙ c .before .before .before .before .before .loop .inv .5
+    (c .if1 .taken) ∙ c .before .before .before .before .before .loop .inv .4
 
 add-k : tie.Need-add-k Inv-loop μ-loop
 add-k c = omega arith
@@ -75,19 +74,17 @@ loop-again c =
     c .before .before .before .add-record .ensures ∙ ap (λ (r : List ℕ). taken (L .s) (L .k) (heldEntry (entryOf r (L .k)))) (record-part b (L .k)) in
     let h = ap (λ (w : Walked). w .gathered .heads) e in
     let d = ap (λ (w : Walked). w .gathered .doses) e in
-    let m = ap (λ (w : Walked). w .gathered .order .count) e in
-    let t = counts (L .s) (L .k) (heldEntry (entryOf (recordAt b (L .k)) (L .k))) (L .inv .4) in
+    let t = counts (L .s) (L .k) (heldEntry (entryOf (recordAt b (L .k)) (L .k))) in
     let q : n - (L .k + 1) ≡ n - L .k - 1 = omega arith in (
       omega arith,
       refl,
       omega (arith, h, t .0),
       omega (arith, d, t .1),
-      omega (arith, m, t .2),
-      rw q (goes _ _ _ _ (omega arith) e (c .before .if1 .left) ∙ L .inv .5),
+      rw q (goes _ _ _ _ (omega arith) e (c .before .if1 .left) ∙ L .inv .4),
     )
 
 returns-2 : tie.Need-returns-2 Inv-loop μ-loop
-returns-2 c = ends _ _ _ _ (omega arith) ∙ c .before .loop .inv .5
+returns-2 c = ends _ _ _ _ (omega arith) ∙ c .before .loop .inv .4
 
 pub walk-spec : {M : Type 1} → statement M
 walk-spec =
