@@ -1,5 +1,5 @@
 -- A plan that stands and is not the planner's: P1's, with the slot of dose 0 cut in two at second 5. Its bytes stand, and planning P1 never
--- leaves them. It is drawn as the planner's is, while rounding slot by slot would lose a gram of it.
+-- leaves them. How it is drawn is computed beside the table (split-drawn of CaseTests).
 use mathlib.Core.Path.{_≡_, refl, sym, ap, subst}
 use mathlib.Core.Logic.{inl}
 use mathlib.Core.List.{List, [], _∷_}
@@ -15,9 +15,9 @@ use Rattle.model.specs.Classes.{P, openFans, free, classP}
 use Rattle.model.specs.Intervals.{insert, instants, settingOf, fansPresent}
 use Rattle.model.specs.Plans.{Class, Slot, planOf, planRecordBytes, recordsBytes}
 use Rattle.model.specs.Stands.{Named, InInterval, InOrder, by-interval, by-start, EndsBy, SlotsStand, Stands, unitsOf}
-use Rattle.model.specs.Line.{unitsBefore, timeOf, drawn}
 use Rattle.model.specs.Answers.{Answer, done, Accepts, Planned, Plans, planRoom, overwritten, Judges}
 use Rattle.model.specs.Cases.{Case, Right, listed, oneFan, caseSets, casePlan, slot}
+use Rattle.model.specs.CaseTests.{before, early, late, split}
 use Rattle.model.proofs.Lists.{Pairs-imp}
 use Rattle.model.proofs.Orders.{read-fits}
 use Rattle.model.proofs.Planner.{written-stands}
@@ -39,23 +39,6 @@ o = record {
 
 abbrev C : ℕ → Doses
 C = caseSets P1
-
-abbrev before : Slot
-before = slot 1 1 0 0 4 0 16 4 1
-
-abbrev early : Slot
-early = slot 1 0 4 0 5 0 20 6 2
-
-abbrev late : Slot
-late = slot 1 0 5 0 10 0 20 6 2
-
-abbrev pub split : List Slot
-split = before ∷ early ∷ late ∷ []
-
--- dose 0 has all its grams at its deadline
-pub split-drawn : drawn split 0 10 ≡ 20
-unfolding drawn unitsBefore total timeOf
-split-drawn = refl
 
 -- any part of dose 0's time behind dose 1
 of-dose-0 : (from to : ℕ) → 4 ≤ from → from < to → to ≤ 10 → Named o 2 C (slot 1 0 from 0 to 0 20 6 2)

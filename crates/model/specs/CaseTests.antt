@@ -1,4 +1,5 @@
 -- The rows of the table pass a test that is computed; that a row which passes is right is proved (proofs/Cases).
+use mathlib.Core.Path.{_≡_, refl}
 use mathlib.Core.Bool.{Bool, true, false, not, _&&_, _||_}
 use mathlib.Core.List.{List, [], _∷_}
 use Prim.Native.Nat.{ℕ, zero, suc, _-_, min}
@@ -15,7 +16,7 @@ use Rattle.model.specs.Plans.{Class, Slot}
 use Rattle.model.specs.Layout.{cut, line, pieceSlot, laneSlots, intervalSlots, tableSlots, slotsOf, classesOf}
 use Rattle.model.specs.Line.{State, finished, shut, idle, dosing, unitsBefore, timeOf, drawn, fedAt, stateAt, Point, pointAt}
 use Rattle.model.specs.Answers.{Answer, refusal, done, aboveTop, tooFast, week}
-use Rattle.model.specs.Cases.{Case, Drawing, listed, caseSets, cases}
+use Rattle.model.specs.Cases.{Case, Drawing, listed, caseSets, slot, cases}
 
 -- ---- tests of all members
 
@@ -202,3 +203,26 @@ caseTest c = readingTest c (readOrder (c .order))
 pub cases-pass : T (allIn caseTest cases)
 unfolding allBelow allIn everySet insideTest someTest givesWay nextTest roomTest fullTest metTest validTest most forcedTest sameList sameClass sameSlot sameState samePoint sameAnswer emptyList nothingTest classTest sharesTest pointTest fastTest doneTest slowTest recordsTest planTest readingTest caseTest sum weight numberAt numberBytes fieldsAt blankAt recordBytes readFrom entryOf fansIn dosesIn clashesAny noClash restOf orderOf readOrder openFans P free remaining insert instants gather total cut line pieceSlot laneSlots intervalSlots tableSlots unitsBefore timeOf drawn fedAt stateAt listed
 cases-pass = tt
+
+-- ---- slots that are not the planner's: P1's, with that of dose 0 cut in two at second 5
+
+-- dose 1's, as P1 has it
+abbrev pub before : Slot
+before = slot 1 1 0 0 4 0 16 4 1
+
+-- dose 0's to second 5
+abbrev pub early : Slot
+early = slot 1 0 4 0 5 0 20 6 2
+
+-- and from there
+abbrev pub late : Slot
+late = slot 1 0 5 0 10 0 20 6 2
+
+-- the three
+abbrev pub split : List Slot
+split = before ∷ early ∷ late ∷ []
+
+-- dose 0 has all its grams at its deadline, where amounts rounded slot by slot lose one of them
+pub split-drawn : drawn split 0 10 ≡ 20
+unfolding drawn unitsBefore total timeOf
+split-drawn = refl
