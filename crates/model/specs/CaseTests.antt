@@ -1,4 +1,4 @@
--- The rows of the table pass a test that is computed; that a row which passes is right is proved (proofs/Cases).
+-- The rows of the table pass a test that is computed; that a row which passes is right is proved (Cases of the crate demands).
 use mathlib.Core.Path.{_≡_, refl}
 use mathlib.Core.Bool.{Bool, true, false, not, _&&_, _||_}
 use mathlib.Core.List.{List, [], _∷_}

@@ -1,1 +1,1 @@
-// No code: the definitions of specs/ and the theorems of proofs/.
+// No code: the definitions of specs/, and the laws of proofs/ that code is proved by.

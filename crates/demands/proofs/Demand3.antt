@@ -1,22 +1,24 @@
 -- Demand 3, sentence by sentence, for every plan that stands: the drawn line, and doses without a fan.
+pub mod States
+pub mod OfAnswers
 use mathlib.Core.Logic.{_⊎_}
 use mathlib.Core.Path.{_∙_, _≡_, ap}
 use mathlib.Core.List.{List}
 use Prim.Native.Nat.{ℕ, _+_, _*_, _/_, _≤_, _<_}
 use native.Mathlib.Nat.{le-div-iff-mul-le, le-trans, mul-div-cancel, zero-div}
 use lib.Dec.{T}
 use Rattle.model.specs.Sets.{Doses}
 use Rattle.model.specs.Records.{read}
 use Rattle.model.specs.Orders.{Order, doseAt, readOrder}
 use Rattle.model.specs.Classes.{Classes, W, classP}
 use Rattle.model.specs.Intervals.{fansPresent, settingOf}
 use Rattle.model.specs.Plans.{Slot, planRecords, slotsRead}
 use Rattle.model.specs.Stands.{Stands, ends, starts}
 use Rattle.model.specs.Line.{HasFan, OneOf, RunsAt, drawn, gramsOf, timeOf, unitsBefore}
 use Rattle.model.proofs.Amounts.{drawn-near, drawn-slow}
 use Rattle.model.proofs.Orders.{read-fits}
 use Rattle.model.proofs.DrawnLine.{Line, rests}
 use Rattle.model.proofs.Standing.{plan-line, plan-rate, plan-waits}
 
 module _ (order : List ℕ) (o : Order) (e : readOrder order ≡ read o) (plan : List ℕ) (st : Stands o plan) (d : ℕ) (dn : d < settingOf o .doses) where
   -- the slots of the plan

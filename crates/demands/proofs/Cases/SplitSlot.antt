@@ -7,22 +7,22 @@ use Prim.Native.Nat.{ℕ, zero, suc, _*_, _≤_, _<_}
 use native.Mathlib.Omega.{arith}
 use lib.Dec.{T}
 use lib.ListN.{length, getD}
 use Rattle.model.specs.Sets.{Doses, sum, weight}
 use Rattle.model.specs.Lists.{total, All, none, also, Pairs, lone, then}
 use Rattle.model.specs.Records.{read, numberAt, numberBytes, fieldsAt, blankAt, recordBytes, readFrom}
 use Rattle.model.specs.Orders.{Order, doseAt, entryOf, fansIn, dosesIn, clashesAny, noClash, restOf, orderOf, readOrder}
 use Rattle.model.specs.Classes.{P, openFans, free, classP}
 use Rattle.model.specs.Intervals.{insert, instants, settingOf, fansPresent}
 use Rattle.model.specs.Plans.{Class, Slot, planOf, planRecordBytes, recordsBytes}
 use Rattle.model.specs.Stands.{Named, InInterval, InOrder, by-interval, by-start, EndsBy, SlotsStand, Stands, unitsOf}
 use Rattle.model.specs.Answers.{Answer, done, Accepts, Planned, Plans, planRoom, overwritten, Judges}
 use Rattle.model.specs.Cases.{Case, Right, listed, oneFan, caseSets, casePlan, slot}
 use Rattle.model.specs.CaseTests.{before, early, late, split}
 use Rattle.model.proofs.Lists.{Pairs-imp}
 use Rattle.model.proofs.Orders.{read-fits}
 use Rattle.model.proofs.Planner.{written-stands}
 use Rattle.model.proofs.Answers.{refuses-number}
-use Rattle.model.proofs.Cases.{cases-right}
+use Rattle.demands.proofs.Cases.{cases-right}
 
 -- P1's row
 abbrev pub P1 : Case

@@ -6,19 +6,19 @@ use Prim.Native.Nat.{ℕ, _*_, _<_}
 use native.Mathlib.Nat.{eq-zero-or-pos}
 use native.Mathlib.Omega.{arith}
 use lib.Dec.{T, lt→ltb, ltb→lt}
 use Rattle.model.specs.Sets.{Doses}
 use Rattle.model.specs.Records.{read}
 use Rattle.model.specs.Orders.{Order, readOrder}
 use Rattle.model.specs.Classes.{Classes, P, W, free, remaining}
 use Rattle.model.specs.Intervals.{fansPresent, settingOf}
 use Rattle.model.specs.Layout.{slotsOf}
 use Rattle.model.specs.FreePlans.{FreePlan}
 use Rattle.model.specs.Answers.{Answer, FirstClass, Refuses, above, aboveTop, tooFast, unread}
 use Rattle.model.proofs.Fractions.{compare≤}
 use Rattle.model.proofs.Orders.{Fit}
 use Rattle.model.proofs.Slots.{laid-stand}
 use Rattle.model.proofs.ValidShares.{classes-of, shares-of}
-use Rattle.model.proofs.FreePieces.{free-plan, none-above}
+use Rattle.demands.proofs.Demand2.FreePieces.{free-plan, none-above}
 
 -- the first of the classes is the first class
 pub first-class : (o : Order) (p : ℕ) (C : ℕ → Doses) → Classes (settingOf o) (fansPresent o) p C → 0 < p → FirstClass o (C 0)

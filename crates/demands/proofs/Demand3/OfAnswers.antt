@@ -1,7 +1,7 @@
 -- Demand 3 over the answers themselves: for all orders, plans, doses and ticks for which drawing answers 0. A pen's answer is a drawing at its new tick (pen-draws of the model's Answers).
 -- Assumes nothing.
 use mathlib.Core.Logic.{_⊎_}
-use mathlib.Core.Path.{_≡_, sym, ap, _∙_}
+use mathlib.Core.Path.{_≡_, refl, sym, ap, _∙_}
 use mathlib.Core.List.{List}
 use Prim.Native.Nat.{ℕ, _+_, _*_, _≤_, _<_}
 use native.Mathlib.Omega.{arith}
@@ -12,12 +12,25 @@ use Rattle.model.specs.Orders.{Order, doseAt, readOrder}
 use Rattle.model.specs.Classes.{Classes, W, classP}
 use Rattle.model.specs.Intervals.{fansPresent, settingOf}
 use Rattle.model.specs.Plans.{Slot, planRecords, slotsRead}
-use Rattle.model.specs.Stands.{ends, starts}
+use Rattle.model.specs.Stands.{Stands, ends, starts}
 use Rattle.model.specs.Line.{HasFan, OneOf, RunsAt, dosing, drawn, finished, gramsOf, idle, shut, stateAt, timeOf, unitsBefore}
-use Rattle.model.specs.Answers.{Drawn, Draws}
-use Rattle.model.proofs.Demand3 as demand
-use Rattle.draw.proofs.States.{Fed, fed-by, idle-free, inside}
-use Rattle.draw.proofs.Answers.{Done, drawn-done}
+use Rattle.model.specs.Answers.{Accepts, Drawn, Draws, draws, no-dose, pointOf, refuses, too-late}
+use Rattle.demands.proofs.Demand3 as demand
+use Rattle.demands.proofs.Demand3.States.{Fed, fed-by, idle-free, inside}
+
+-- an answer that is no refusal: the order is accepted, the plan stands, and the answer is the point
+record Done (order plan : List ℕ) (d t : ℕ) (x : Drawn) : Type 0 where
+  read-order : Order
+  accepts : Accepts order read-order
+  stands : Stands read-order plan
+  listed : d < settingOf read-order .doses
+  is : x ≡ pointOf read-order plan d t
+
+drawn-done : (order plan : List ℕ) (d t : ℕ) (x : Drawn) → Draws order plan d t x → x .answer .number ≡ 0 → Done order plan d t x
+drawn-done order plan d t x (refuses a j n) e = absurd (n e)
+drawn-done order plan d t x (no-dose o acc st l) e = absurd (omega arith)
+drawn-done order plan d t x (too-late o acc st l g) e = absurd (omega arith)
+drawn-done order plan d t x (draws o acc st l g) e = record { read-order = o; accepts = acc; stands = st; listed = l; is = refl }
 
 module _ (order plan : List ℕ) (d : ℕ) where
   -- the slots of the plan
@@ -40,7 +53,7 @@ module _ (order plan : List ℕ) (d : ℕ) where
       → (x .point .amount * timeOf slots d ≤ unitsBefore slots d t) × (unitsBefore slots d t < (x .point .amount + 1) * timeOf slots d)
   behind-never-ahead t x a =
       let s = done t x a in
-      rw (amount-is t x a) (demand.behind-never-ahead order (s .sound .read-order) (s .sound .accepts .reads) plan (s .sound .stands) d (s .listed) t)
+      rw (amount-is t x a) (demand.behind-never-ahead order (s .read-order) (s .accepts .reads) plan (s .stands) d (s .listed) t)
 
   module _ (t h : ℕ) (x y : Drawn) (a : Answers t x) (b : Answers (t + h) y) where
     -- "over h seconds it rises by less than h × rate + 1 gram"
@@ -48,14 +61,14 @@ module _ (order plan : List ℕ) (d : ℕ) where
     rises-slowly =
         let s = done t x a in
         rw (amount-is t x a, amount-is (t + h) y b)
-        (demand.rises-slowly order (s .sound .read-order) (s .sound .accepts .reads) plan (s .sound .stands) d (s .listed) t h)
+        (demand.rises-slowly order (s .read-order) (s .accepts .reads) plan (s .stands) d (s .listed) t h)
 
     -- and never falls
     pub never-falls : x .point .amount ≤ y .point .amount
     never-falls =
         let s = done t x a in
         rw (amount-is t x a, amount-is (t + h) y b)
-        (demand.never-falls order (s .sound .read-order) (s .sound .accepts .reads) plan (s .sound .stands) d (s .listed) t h)
+        (demand.never-falls order (s .read-order) (s .accepts .reads) plan (s .stands) d (s .listed) t h)
 
     -- "and not at all where the dose has no slot time"
     pub still-without-slot-time : ((s : Slot) → OneOf slots s → s .dose ≡ d → (ends s ≤ t * s .grams) ⊎ ((t + h) * s .grams ≤ starts s))
@@ -63,11 +76,11 @@ module _ (order plan : List ℕ) (d : ℕ) where
     still-without-slot-time g =
         let s = done t x a in
         rw (amount-is t x a, amount-is (t + h) y b)
-        (demand.still-without-slot-time order (s .sound .read-order) (s .sound .accepts .reads) plan (s .sound .stands) d (s .listed) t h g)
+        (demand.still-without-slot-time order (s .read-order) (s .accepts .reads) plan (s .stands) d (s .listed) t h g)
 
   module _ (t : ℕ) (x : Drawn) (a : Answers t x) (o : Order) (e : readOrder order ≡ read o) where
-    same-order : done t x a .sound .read-order ≡ o
-    same-order = let f = done t x a .sound .accepts .reads in cc
+    same-order : done t x a .read-order ≡ o
+    same-order = let f = done t x a .accepts .reads in cc
 
     -- the dose is one of the order's
     pub listed : d < settingOf o .doses
@@ -77,24 +90,24 @@ module _ (order plan : List ℕ) (d : ℕ) where
     pub zero-up-to-the-start : t ≤ doseAt o d .release → x .point .amount ≡ 0
     zero-up-to-the-start l =
         let s = done t x a in
-        amount-is t x a ∙ demand.zero-up-to-the-start order (s .sound .read-order) (s .sound .accepts .reads) plan (s .sound .stands) d (s .listed) t (rw same-order l)
+        amount-is t x a ∙ demand.zero-up-to-the-start order (s .read-order) (s .accepts .reads) plan (s .stands) d (s .listed) t (rw same-order l)
 
     -- "all the grams from the deadline on"
     pub all-from-the-deadline : doseAt o d .deadline ≤ t → x .point .amount ≡ doseAt o d .grams
     all-from-the-deadline l =
         let s = done t x a in
-        amount-is t x a ∙ demand.all-from-the-deadline order (s .sound .read-order) (s .sound .accepts .reads) plan (s .sound .stands) d (s .listed) t (rw same-order l)
+        amount-is t x a ∙ demand.all-from-the-deadline order (s .read-order) (s .accepts .reads) plan (s .stands) d (s .listed) t (rw same-order l)
         ∙ ap (λ (u : Order). doseAt u d .grams) same-order
 
     -- the W and P of the dose's slots, its rate, are those of its class
     pub rate-of-its-class : (p : ℕ) (C : ℕ → Doses) → Classes (settingOf o) (fansPresent o) p C → (i : ℕ) → i < p → T (C i d)
         → (gramsOf slots d ≡ W (settingOf o) (C i)) × (timeOf slots d ≡ classP (settingOf o) (fansPresent o) C i)
-    rate-of-its-class = demand.rate-of-its-class order o e plan (rw same-order at (done t x a .sound .stands)) d listed
+    rate-of-its-class = demand.rate-of-its-class order o e plan (rw same-order at (done t x a .stands)) d listed
 
     -- "Inside its window a dose is without a fan only if every fan is running, each at that dose's rate or above"
     pub waits-only-while-all-fans-run : (q m : ℕ) → 0 < q → q * doseAt o d .release ≤ m → m < q * doseAt o d .deadline → (HasFan slots q m d → ⊥)
         → (f : ℕ) → 1 ≤ f → f ≤ o .fans → RunsAt slots q m f (gramsOf slots d) (timeOf slots d)
-    waits-only-while-all-fans-run = demand.waits-only-while-all-fans-run order o e plan (rw same-order at (done t x a .sound .stands)) d listed
+    waits-only-while-all-fans-run = demand.waits-only-while-all-fans-run order o e plan (rw same-order at (done t x a .stands)) d listed
 
     state-is : x .point .state ≡ stateAt o slots d t
     state-is = ap (λ (y : Drawn). y .point .state) (done t x a .is) ∙ ap (λ (u : Order). stateAt u slots d t) same-order

@@ -6,19 +6,19 @@ use mathlib.Core.Path.{_≡_, _∙_, ap, refl, sym}
 use mathlib.Core.List.{List}
 use Prim.Native.Nat.{ℕ, _*_, _<_, _≤_}
 use lib.ListN.{length}
 use Rattle.model.specs.Sets.{Doses}
 use Rattle.model.specs.Records.{read}
 use Rattle.model.specs.Orders.{Order, readOrder}
 use Rattle.model.specs.Classes.{P, W, setNumber}
 use Rattle.model.specs.Intervals.{fansPresent, settingOf}
 use Rattle.model.specs.FreePlans.{FreePlan}
 use Rattle.model.specs.Answers.{Answer, Drawn, Draws, FirstClass, Judges, Moves, Pen, Planned, Plans, planRoom}
 use Rattle.model.proofs.Sets.{Alike, bits-one, weight-alike}
 use Rattle.model.proofs.FanTime.{P-alike}
 use Rattle.model.proofs.NextClass.{next-transport}
-use Rattle.model.proofs.Refusing.{refused-names}
+use Rattle.demands.proofs.Demand2.Refusing.{refused-names}
 use Rattle.model.proofs.Answers.{OfOrder, drawn-order, judged-order, order-accepted, order-refused, pen-draws, planned-order, refused-not-accepted}
-use Rattle.model.proofs.Demand2.{names-the-set, refused-exactly, the-set-shows-it}
+use Rattle.demands.proofs.Demand2.{names-the-set, refused-exactly, the-set-shows-it}
 
 -- the set B is the first class, with the W and P of the answer, and these are above the top rate
 pub record Shows (o : Order) (a : Answer) (B : Doses) : Type 0 where

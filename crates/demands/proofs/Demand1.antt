@@ -1,4 +1,7 @@
 -- Demand 1, sentence by sentence: over the answers of planning, judging, drawing and the pen, for any bytes, doses and ticks whatever. Assumes nothing.
+pub mod Decided
+pub mod EveryCall
+pub mod Rows
 use mathlib.Core.Logic.{_≢_, _⊎_, inl, inr}
 use mathlib.Core.Path.{_∙_, _≡_, ap, refl}
 use mathlib.Core.List.{List}
@@ -6,18 +9,18 @@ use Prim.Native.Nat.{ℕ, _+_, _*_, _≤_, _<_}
 use native.Mathlib.Omega.{arith}
 use borrow.Author.Tests.{ne-eqb}
 use lib.ListN.{getD, length, take}
 use Rattle.model.specs.Sets.{Doses}
 use Rattle.model.specs.Orders.{Order}
 use Rattle.model.specs.Classes.{Classes}
 use Rattle.model.specs.Intervals.{fansPresent, settingOf}
 use Rattle.model.specs.Layout.{slotsOf}
 use Rattle.model.specs.Stands.{Stands}
 use Rattle.model.specs.Line.{shut}
 use Rattle.model.specs.Answers.{Accepts, Answer, Drawn, Draws, Judges, Moves, Pen, Planned, Plans, planBytes}
 use Rattle.model.proofs.Answers.{Agree, drawn-order, draws-one, judged-order, judges-one, moves-one, pen-draws, pen-goes, plan-settled, plans-agree, refuses-number, same-slots}
-use Rattle.model.proofs.EveryCall.{draws-some, judges-some, moves-some, plans-some}
-use Rattle.model.proofs.Rows.{DrawingRow, GivenExactly, JudgingRow, OnlyMeant, PlanningRow, drawing-given, judging-given, order-meant, planning-given, planning-meant}
-use Rattle.model.proofs.Planning.{kept, plan-in-front}
+use Rattle.demands.proofs.Demand1.EveryCall.{draws-some, judges-some, moves-some, plans-some}
+use Rattle.demands.proofs.Demand1.Rows.{DrawingRow, GivenExactly, JudgingRow, OnlyMeant, PlanningRow, drawing-given, judging-given, order-meant, planning-given, planning-meant}
+use Rattle.demands.proofs.Demand2.Planning.{kept, plan-in-front}
 
 -- ---- "Every order, plan, dose number and second gets an answer; the caller checks nothing beforehand."
 

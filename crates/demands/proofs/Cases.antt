@@ -1,4 +1,7 @@
 -- The table of cases: a row that passes the computed test is right by the definitions, and every row passes. Assumes nothing.
+pub mod Laws
+pub mod ForcedShares
+pub mod SplitSlot
 use mathlib.Core.Path.{_≡_, refl, sym, ap, ap₂, _∙_}
 use mathlib.Core.Bool.{Bool, true, false, not, _&&_}
 use mathlib.Core.Logic.{inl, inr}
@@ -8,31 +11,31 @@ use native.Mathlib.Nat.{eq-zero-or-pos}
 use native.Mathlib.Omega.{arith}
 use lib.Dec.{T, T-not, eqb, leb, leb→le}
 use lib.ListN.{length}
 use Rattle.model.specs.Sets.{Doses}
 use Rattle.model.specs.Lists.{All, none, also}
 use Rattle.model.specs.Records.{Reading, read, refused, pick}
 use Rattle.model.specs.Orders.{Order, readOrder}
 use Rattle.model.specs.Classes.{Classes, NextClass, Row, free, remaining}
 use Rattle.model.specs.Intervals.{settingOf, fansPresent}
 use Rattle.model.specs.Plans.{Class, Slot, recordsBytes, planOf, slotsRead, planRecords}
 use Rattle.model.specs.Layout.{slotsOf, classAt, classesOf}
 use Rattle.model.specs.Line.{pointAt}
 use Rattle.model.specs.Stands.{Stands}
 use Rattle.model.specs.Answers.{Answer, refusal, done, aboveTop, tooFast, FirstClass, Refuses, unread, above, Accepts, Planned, ValidShares, planBytes, planRoom, overwritten, Plans, Judges, Draws, Moves, week}
 use Rattle.model.specs.Cases.{Case, Drawing, DrawingRight, SameDoses, SetsRight, Right, caseSets, casePlan, casePlanned, cases}
 use Rattle.model.specs.CaseTests.{allBelow, allIn, caseTest, readingTest, nothingTest, classTest, validTest, forcedTest, sharesTest, pointTest, samePoint, fastTest, doneTest, slowTest, recordsTest, planTest, caseShares, emptyList, sameAnswer, sameList, sameClass, sameSlot, cases-pass}
 use Rattle.model.proofs.Sets.{and-left, and-right, or-elim, Alike, alike-sub, alike-back, weight-alike}
 use Rattle.model.proofs.FanTime.{P-alike}
 use Rattle.model.proofs.NextClass.{next-unique}
 use Rattle.model.proofs.Sequence.{classes-unique, count-unique}
 use Rattle.model.proofs.Orders.{Fit, three, no-refusal, read-fits}
 use Rattle.model.proofs.Lists.{length-singles}
 use Rattle.model.proofs.Planner.{plan-stands, plan-reads}
 use Rattle.model.proofs.Plans.{slots-read}
-use Rattle.model.proofs.Refusing.{first-class}
+use Rattle.demands.proofs.Demand2.Refusing.{first-class}
 use Rattle.model.proofs.Answers.{refuses-one, refused-not-accepted}
-use Rattle.model.proofs.CaseLaws.{all-below, next, valid, same-list, same-class, same-slot, same-point, same-answer, empty-list}
-use Rattle.model.proofs.ForcedShares.{one-plan}
+use Rattle.demands.proofs.Cases.Laws.{all-below, next, valid, same-list, same-class, same-slot, same-point, same-answer, empty-list}
+use Rattle.demands.proofs.Cases.ForcedShares.{one-plan}
 
 -- ---- a row that is refused
 

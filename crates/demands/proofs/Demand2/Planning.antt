@@ -5,13 +5,13 @@ use Prim.Native.Nat.{ℕ, _+_, _*_, _-_, _≤_}
 use native.Mathlib.Omega.{arith}
 use lib.ListN.{drop, getD, length, length-append, length-drop, take}
 use lib.Seq.{getD-append-add, getD-drop, take-append-seam}
 use Rattle.model.specs.Orders.{Order}
 use Rattle.model.specs.Stands.{Stands}
 use Rattle.model.specs.Answers.{Accepts, Planned, Plans, done, no-room, overwritten, planBytes, planRoom, plans, refuses}
 use Rattle.model.proofs.Orders.{read-fits}
 use Rattle.model.proofs.Planner.{plan-length, plan-room, plan-stands}
 use Rattle.model.proofs.ValidShares.{classes-of, shares-of}
-use Rattle.model.proofs.Refusing.{refused-names}
+use Rattle.demands.proofs.Demand2.Refusing.{refused-names}
 
 -- an accepted order has a plan that stands
 pub accepted-plan : (order : List ℕ) (o : Order) → Accepts order o → (plan : List ℕ) × Stands o plan

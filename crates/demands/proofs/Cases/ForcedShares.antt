@@ -7,22 +7,22 @@ use Prim.Native.Nat.{ℕ, _-_, _≤_, _<_, min}
 use native.Mathlib.Omega.{arith}
 use lib.Dec.{T, leb→le}
 use lib.ListN.{length}
 use Rattle.model.specs.Sets.{Doses, sum}
 use Rattle.model.specs.Orders.{Order}
 use Rattle.model.specs.Classes.{Setting, Row, Classes, free}
 use Rattle.model.specs.Intervals.{settingOf, fansPresent}
 use Rattle.model.specs.Shares.{need, room, Valid}
 use Rattle.model.specs.Layout.{slotsOf}
 use Rattle.model.specs.Answers.{done, Accepts, Planned, ValidShares, planBytes, planRoom, overwritten, Plans}
 use Rattle.model.specs.CaseTests.{allBelow, most, forcedTest}
 use Rattle.model.proofs.Sums.{le-sum, sum-le-without}
 use Rattle.model.proofs.Sets.{Alike}
 use Rattle.model.proofs.Same.{agree-refl, valid-same}
 use Rattle.model.proofs.Sequence.{classes-unique, count-unique, free-alike}
 use Rattle.model.proofs.Orders.{read-fits}
 use Rattle.model.proofs.Planner.{plan-length}
 use Rattle.model.proofs.Answers.{one-order, plan-settled, refused-not-accepted}
-use Rattle.model.proofs.CaseLaws.{all-below}
+use Rattle.demands.proofs.Cases.Laws.{all-below}
 
 module _ (S : Setting) (row : Row) (A : Doses) where
   open Setting S using (doses as n, intervals as J)

@@ -1,4 +1,9 @@
 -- Demand 2, sentence by sentence: the rates, what the slots deliver, and the refusal for the top rate. Orders are those that are read, plans those that stand.
+pub mod FreePieces
+pub mod Refusing
+pub mod Bays
+pub mod Planning
+pub mod OfAnswers
 use mathlib.Core.Logic.{_↔_, _⊎_, inl, inr}
 use mathlib.Core.Path.{_≡_}
 use mathlib.Core.List.{List}
@@ -6,25 +11,25 @@ use Prim.Native.Nat.{ℕ, _+_, _*_, _≤_, _<_}
 use native.Mathlib.Omega.{arith}
 use lib.Dec.{T, ltb→lt}
 use lib.ListN.{length, getD}
 use Rattle.model.specs.Sets.{Doses}
 use Rattle.model.specs.Lists.{total}
 use Rattle.model.specs.Records.{read}
 use Rattle.model.specs.Orders.{Order, doseAt, readOrder}
 use Rattle.model.specs.Classes.{Classes, P, W, classP}
 use Rattle.model.specs.Intervals.{fansPresent, settingOf}
 use Rattle.model.specs.Plans.{Slot, planRecords, slotsRead}
 use Rattle.model.specs.Stands.{Between, Stands, unitsOf}
 use Rattle.model.specs.Line.{Covers, OneOf, timeOf}
 use Rattle.model.specs.FreePlans.{FreePlan}
 use Rattle.model.specs.Answers.{Accepts, Answer, FirstClass, Planned, Plans, Refuses, above, done, overwritten, planRoom, tooFast}
 use Rattle.model.proofs.Sequence.{classes-unique, count-unique}
 use Rattle.model.proofs.Orders.{read-fits}
 use Rattle.model.proofs.ValidShares.{class-open, classes-of}
-use Rattle.model.proofs.FreePieces.{none-above}
+use Rattle.demands.proofs.Demand2.FreePieces.{none-above}
 use Rattle.model.proofs.Standing.{plan-line, slot-named, slot-rate, slots-apart}
-use Rattle.model.proofs.Bays.{bays-apart}
-use Rattle.model.proofs.Refusing.{above-none, free-or-above, refused-names}
-use Rattle.model.proofs.Planning.{accepted-plan, planned}
+use Rattle.demands.proofs.Demand2.Bays.{bays-apart}
+use Rattle.demands.proofs.Demand2.Refusing.{above-none, free-or-above, refused-names}
+use Rattle.demands.proofs.Demand2.Planning.{accepted-plan, planned}
 
 -- ---- "Rates are those of the offline optimum: again and again, among the doses left, the largest set with the greatest grams per second of
 -- fan time open to it"

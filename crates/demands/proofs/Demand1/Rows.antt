@@ -4,15 +4,15 @@ use mathlib.Core.Path.{_≡_, _∙_, ap, refl, sym}
 use mathlib.Core.List.{List}
 use Prim.Native.Nat.{ℕ, _≤_, _<_}
 use lib.ListN.{length}
 use Rattle.model.specs.Records.{read}
 use Rattle.model.specs.Orders.{Order, readOrder}
 use Rattle.model.specs.Intervals.{settingOf}
 use Rattle.model.specs.Stands.{Stands}
 use Rattle.model.specs.Answers.{Accepts, Answer, Drawn, Draws, Judges, Planned, Plans, Refuses, above, planRoom, refusal, tooFast, unread, week}
 use Rattle.model.proofs.Given.{Given, given-exactly, row-place}
-use Rattle.model.proofs.Refusing.{TooFast}
+use Rattle.demands.proofs.Demand2.Refusing.{TooFast}
 use Rattle.model.proofs.Answers.{OfOrder, order-accepted, order-refused, draws-one, judges-one, plans-agree}
-use Rattle.model.proofs.EveryCall.{accepted-planned}
+use Rattle.demands.proofs.Demand1.EveryCall.{accepted-planned}
 
 -- ---- the rows
 

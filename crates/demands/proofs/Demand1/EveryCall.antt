@@ -5,16 +5,16 @@ use mathlib.Core.List.{List}
 use Prim.Native.Nat.{ℕ, _≤_}
 use native.Mathlib.Omega.{arith}
 use lib.ListN.{length}
 use Rattle.model.specs.Records.{Reading, read, refused}
 use Rattle.model.specs.Orders.{Order, readOrder}
 use Rattle.model.specs.Intervals.{settingOf}
 use Rattle.model.specs.Answers.{Accepts, Answer, Drawn, Draws, Judges, Moves, Pen, Planned, Plans, Refuses, done, planRoom, unread, week}
 use Rattle.model.proofs.Fractions.{compare≤}
 use Rattle.model.proofs.Orders.{read-fits}
 use Rattle.model.proofs.ValidShares.{classes-of, shares-of}
-use Rattle.model.proofs.Decided.{dec-stands}
+use Rattle.demands.proofs.Demand1.Decided.{dec-stands}
 use Rattle.model.proofs.Answers.{refuses-number}
-use Rattle.model.proofs.Demand2.{accepted-or-refused}
+use Rattle.demands.proofs.Demand2.{accepted-or-refused}
 
 -- an order is accepted or refused
 pub order-decided : (order : List ℕ) → ((o : Order) × Accepts order o) ⊎ ((a : Answer) × Refuses order a)

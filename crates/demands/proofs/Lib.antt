@@ -1,0 +1,5 @@
+pub mod Cases
+pub mod Greatest
+pub mod Demand1
+pub mod Demand2
+pub mod Demand3

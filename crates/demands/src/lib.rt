@@ -1,0 +1,1 @@
+// No code: the theorems of proofs/ that no code cites.
