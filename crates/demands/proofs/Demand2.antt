@@ -24,7 +24,8 @@ use Rattle.model.specs.FreePlans.{FreePlan}
 use Rattle.model.specs.Answers.{Accepts, Answer, FirstClass, Planned, Plans, Refuses, above, done, overwritten, planRoom, tooFast}
 use Rattle.model.proofs.Sequence.{classes-unique, count-unique}
 use Rattle.model.proofs.Orders.{read-fits}
-use Rattle.model.proofs.ValidShares.{class-open, classes-of}
+use Rattle.model.proofs.ValidShares.{class-open}
+use Rattle.demands.proofs.Existence.{classes-of}
 use Rattle.demands.proofs.Demand2.FreePieces.{none-above}
 use Rattle.model.proofs.Standing.{plan-line, slot-named, slot-rate, slots-apart}
 use Rattle.demands.proofs.Demand2.Bays.{bays-apart}

@@ -9,7 +9,7 @@ use Rattle.model.specs.Sets.{Doses}
 use Rattle.model.specs.Classes.{Setting, Row}
 use Rattle.model.specs.Shares.{need, got, Within, Leaves, Chain, out, onward, NoChain, Closed, Greatest}
 use Rattle.model.proofs.Chains.{bound, tight, given-out}
-use Rattle.model.proofs.Shares.{Ended, reached, reached-back, reached-first, reached-short, next-leads, ended-or-more, ended-or-spare}
+use Rattle.demands.proofs.Existence.Shares.{Ended, reached, reached-back, reached-first, reached-short, next-leads, ended-or-more, ended-or-spare}
 
 module _ (S : Setting) (row : Row) (A : Doses) (x : ℕ → ℕ → ℕ) where
   open Setting S using (doses, intervals)

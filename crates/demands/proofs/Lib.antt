@@ -1,4 +1,5 @@
 pub mod Cases
+pub mod Existence
 pub mod Greatest
 pub mod Demand1
 pub mod Demand2

@@ -7,8 +7,6 @@ pub mod Same
 pub mod Chains
 pub mod Rounds
 pub mod Sequence
-pub mod Raise
-pub mod Shares
 pub mod Cells
 pub mod Moments
 pub mod Amounts

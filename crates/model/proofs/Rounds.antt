@@ -2,8 +2,8 @@
 use mathlib.Core.Bool.{Bool}
 use mathlib.Core.Logic.{_⊎_, inl, inr}
 use mathlib.Core.Path.{_≡_}
-use Prim.Native.Nat.{_*_, _<_, _≤_, suc, zero, ℕ}
-use native.Mathlib.Nat.{eq-zero-or-pos, le-antisymm, le-of-lt, mul-le-mul-left, mul-le-mul-right}
+use Prim.Native.Nat.{_*_, _<_, _≤_, ℕ}
+use native.Mathlib.Nat.{le-antisymm, le-of-lt, mul-le-mul-left, mul-le-mul-right}
 use native.Mathlib.Omega.{arith}
 use Rattle.model.specs.Sets.{Doses, Nonempty, Sub}
 use Rattle.model.specs.Classes.{NextClass, P, Row, Setting, W}
@@ -12,7 +12,7 @@ use Rattle.model.proofs.Sets.{_∩_, and-both, and-left, and-right, int
 use Rattle.model.proofs.FanTime.{Heavy, P-mono, weighs}
 use Rattle.model.proofs.Fractions.{compare≤, denser, denser′, pos-left}
 use Rattle.model.proofs.NextClass.{next-class}
-use Rattle.model.proofs.Chains.{denser-part, densest, moves, smaller, some-part}
+use Rattle.model.proofs.Chains.{denser-part, densest, moves}
 
 module _ (S : Setting) (row : Row) where
   open Setting S using (doses as n, grams)
@@ -82,20 +82,3 @@ module _ (S : Setting) (row : Row) where
                 mul-le-mul-left (W S B) (P-mono S row (E ∩ R) E (λ k l. and-left (E k) (R k))),
                 mul-le-mul-right (P S row B) (weight-mono n grams E (E ∩ R) (λ k l t. and-both (E k) (R k) t (s k l t))),
               )
-
-  -- whoever finds, for each candidate, shares that no chain raises, finds the next class: the weight falls at each round
-  module _ (heavy : Heavy S) (solve : (A : Doses) → (x : ℕ → ℕ → ℕ) × Within S row A x × (R : Doses) × (Q : ℕ → Bool) × Closed S row A x R Q) (rest : Doses) where
-    run : (fuel : ℕ) (A : Doses) → W S A ≤ fuel → Nonempty n A → Sub n A rest → Keeps rest A → (E : Doses) × NextClass S row rest E
-    run zero A h p s q = absurd (omega (arith, weighs S heavy A p))
-    run (suc fuel) A h p s q =
-        let r = solve A in
-        elim (eq-zero-or-pos (missing S row A (r .0))) [
-          | inl e ↦ (A, keeps-end heavy rest A q (r .0) (r .1) s p e)
-          | inr d ↦ run fuel (r .2) (omega (arith, smaller S row A (r .0) (r .1) (r .2) (r .3) (r .4) heavy d))
-              (some-part S row A (r .0) (r .1) (r .2) (r .3) (r .4) d) (λ k l t. s k l (r .4 .inside k l t))
-              (keeps-step heavy rest A q (r .0) (r .1) (r .2) (r .3) (r .4) d)
-        ]
-
-    -- there is a next class of any doses that remain
-    pub next-exists : Nonempty n rest → (E : Doses) × NextClass S row rest E
-    next-exists p = run (W S rest) rest (omega arith) p (λ k l t. t) (keeps-start rest)

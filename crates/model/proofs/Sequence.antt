@@ -3,19 +3,16 @@ use mathlib.Core.Bool.{Bool, _&&_, _||_, false, not, true}
 use mathlib.Core.Logic.{_⊎_, inl, inr}
 use mathlib.Core.Path.{_∙_, _≡_, ap, fun-ext, refl, sym}
 use Prim.Native.Nat.{_*_, _+_, _<_, _≤_, suc, zero, ℕ}
-use native.Mathlib.Nat.{eq-or-lt-of-le, eq-zero-or-pos, le-of-lt}
+use native.Mathlib.Nat.{eq-or-lt-of-le, le-of-lt}
 use native.Mathlib.Omega.{arith}
-use borrow.Author.Tests.{eq-eqb, ne-eqb}
-use lib.Dec.{T, T-not, eqb}
+use lib.Dec.{T, T-not}
 use Rattle.model.specs.Sets.{Doses, Nonempty, Sub, sum, weight}
 use Rattle.model.specs.Classes.{Classes, NextClass, P, Row, Setting, W, classP, free, openFans, remaining, reserved}
-use Rattle.model.specs.Shares.{Closed, Within}
 use Rattle.model.proofs.Sums.{last, sum-le}
-use Rattle.model.proofs.Sets.{Alike, Apart, _∖_, alike, alike-back, and-left, and-not, le-weight, or-elim, or-left, or-right, size, size-all, weight-alike, weight-all, weight-empty, weight-lt, weight-mono, weight-pos, weight-union}
-use Rattle.model.proofs.FanTime.{Heavy, P-empty, P-union, left, openFans-alike, openFans-empty, openFans-union}
+use Rattle.model.proofs.Sets.{Alike, Apart, alike, alike-back, le-weight, or-elim, or-left, or-right, size, size-all, weight-all, weight-empty, weight-mono, weight-union}
+use Rattle.model.proofs.FanTime.{P-empty, P-union, left, openFans-alike, openFans-empty, openFans-union}
 use Rattle.model.proofs.Fractions.{compare≤, denser, pos-left}
 use Rattle.model.proofs.NextClass.{falls, next-alike, next-transport, stays}
-use Rattle.model.proofs.Rounds.{next-exists}
 
 -- ---- a sequence of sets: what remains after i of them, and their union
 
@@ -267,54 +264,3 @@ module _ (S : Setting) where
   -- nothing remains: these are the classes
   pub found-all : (F : Row) (p : ℕ) (C : ℕ → Doses) → Found F p C → size n (remaining C p) ≡ 0 → Classes S F p C
   found-all F p C f z = record { next = f .next; done = λ k l t. omega (arith, le-weight n (λ k. 1) (remaining C p) k l t) }
-
-  -- fewer doses remain after each class
-  pub left-falls : (F : Row) (i : ℕ) (C : ℕ → Doses) → NextClass S (free S F C i) (remaining C i) (C i) → size n (remaining C (suc i)) < size n (remaining C i)
-  unfolding remaining
-  left-falls F i C a =
-      let r = a .some in
-      weight-lt n (λ k. 1) (remaining C i ∖ C i) (remaining C i) (λ k l. and-left (remaining C i k) (not (C i k))) (r .0) (r .1)
-      (a .within (r .0) (r .1) (r .2)) (and-not (remaining C i (r .0)) (C i (r .0)) (r .2)) (omega arith)
-
-  -- ---- there are classes
-
-  choose : Bool → Bool → Bool → Bool
-  choose true x y = x
-  choose false x y = y
-
-  -- C with A at i
-  put : (ℕ → Doses) → ℕ → Doses → ℕ → Doses
-  put C i A l k = choose (eqb l i) (A k) (C l k)
-
-  put-here : (C : ℕ → Doses) (i : ℕ) (A : Doses) → Alike n A (put C i A i)
-  unfolding put choose
-  put-here C i A k l = rw (eq-eqb i i refl)
-
-  put-below : (C : ℕ → Doses) (i : ℕ) (A : Doses) (l : ℕ) → l < i → Alike n (C l) (put C i A l)
-  unfolding put choose
-  put-below C i A l h k q = rw (ne-eqb l i (omega arith))
-
-  -- shares that no chain raises, for each candidate and each row of fans, show that there are classes
-  module _ (heavy : Heavy S) (solve : (row : Row) (A : Doses) → (x : ℕ → ℕ → ℕ) × Within S row A x × (R : Doses) × (Q : ℕ → Bool) × Closed S row A x R Q)
-      (F : Row) where
-    build : (fuel i : ℕ) (C : ℕ → Doses) → size n (remaining C i) ≤ fuel → Found F i C → (p : ℕ) × (C′ : ℕ → Doses) × Classes S F p C′
-    build zero i C h f = (i, C, found-all F i C f (omega arith))
-    build (suc fuel) i C h f = elim (eq-zero-or-pos (size n (remaining C i))) [
-      | inl z ↦ (i, C, found-all F i C f z)
-      | inr w ↦
-          let r = next-exists S (free S F C i) heavy (solve (free S F C i)) (remaining C i) (weight-pos n (λ k. 1) (remaining C i) w) in
-          let C′ : ℕ → Doses = put C i (r .0) in
-          let here : NextClass S (free S F C i) (remaining C i) (C′ i) =
-          next-transport S (free S F C i) (free S F C i) (remaining C i) (remaining C i) (r .0) (C′ i) (λ j. refl) (λ k l. refl) (put-here C i (r .0)) (r .1) in
-          let f′ = found-more F i C C′ (put-below C i (r .0)) f here in
-          build fuel (suc i) C′
-          (omega (
-            arith,
-            left-falls F i C′ (f′ .next i (omega arith)),
-            weight-alike n (λ k. 1) (remaining C i) (remaining C′ i) (remaining-alike C C′ i (put-below C i (r .0))),
-          )) f′
-    ]
-
-    -- there are classes
-    pub classes-exist : (p : ℕ) × (C : ℕ → Doses) × Classes S F p C
-    classes-exist = build (size n (remaining (λ l k. false) 0)) 0 (λ l k. false) (omega arith) (found-none F (λ l k. false))

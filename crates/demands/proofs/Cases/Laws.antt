@@ -10,14 +10,14 @@ use lib.Dec.{T, T-not, not-T, eqb, leb, eqb→eq, leb→le}
 use Rattle.model.specs.Sets.{Doses, Sub, Nonempty}
 use Rattle.model.specs.Classes.{Setting, Row, noDenser, asDense, NextClass}
 use Rattle.model.specs.Shares.{Valid, room, holds, need, got, given}
-use Rattle.model.proofs.Sums.{last}
-use Rattle.model.proofs.Sets.{Alike, alike-sub, alike-back, and-left, and-right, and-both, weight-alike}
-use Rattle.model.proofs.FanTime.{P-alike}
 use Rattle.model.specs.Plans.{Class, Slot}
 use Rattle.model.specs.Line.{State, finished, shut, idle, dosing, Point}
 use Rattle.model.specs.Answers.{Answer}
-use Rattle.model.proofs.Orders.{three, four}
 use Rattle.model.specs.CaseTests.{allBelow, everySet, marked, insideTest, someTest, givesWay, nextTest, roomTest, fullTest, metTest, validTest, sameList, sameClass, sameSlot, sameState, samePoint, sameAnswer, emptyList}
+use Rattle.model.proofs.Sums.{last}
+use Rattle.model.proofs.Sets.{Alike, alike-sub, alike-back, and-left, and-right, and-both, weight-alike}
+use Rattle.model.proofs.FanTime.{P-alike}
+use Rattle.model.proofs.Orders.{three, four}
 
 -- ---- what the tests of all members show
 

@@ -13,7 +13,7 @@ use Rattle.model.specs.Records.{read, numberAt, numberBytes, fieldsAt, blankAt,
 use Rattle.model.specs.Orders.{Order, doseAt, entryOf, fansIn, dosesIn, clashesAny, noClash, restOf, orderOf, readOrder}
 use Rattle.model.specs.Classes.{P, openFans, free, classP}
 use Rattle.model.specs.Intervals.{insert, instants, settingOf, fansPresent}
-use Rattle.model.specs.Plans.{Class, Slot, planOf, planRecordBytes, recordsBytes}
+use Rattle.model.specs.Plans.{Class, planOf, planRecordBytes, recordsBytes}
 use Rattle.model.specs.Stands.{Named, InInterval, InOrder, by-interval, by-start, EndsBy, SlotsStand, Stands, unitsOf}
 use Rattle.model.specs.Answers.{Answer, done, Accepts, Planned, Plans, planRoom, overwritten, Judges}
 use Rattle.model.specs.Cases.{Case, Right, listed, oneFan, caseSets, casePlan, slot}

@@ -22,7 +22,7 @@ use Rattle.model.proofs.Fractions.{compare≤}
 use Rattle.model.proofs.Lists.{All-imp}
 use Rattle.model.proofs.Plans.{slots-planned}
 use Rattle.model.proofs.Orders.{Fit, no-refusal}
-use Rattle.model.proofs.ValidShares.{classes-of}
+use Rattle.demands.proofs.Existence.{classes-of}
 use Rattle.model.proofs.Standing.{same-member, same-rate}
 use Rattle.model.proofs.Answers.{classes-alike}
 

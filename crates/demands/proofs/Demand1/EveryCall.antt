@@ -11,7 +11,7 @@ use Rattle.model.specs.Intervals.{settingOf}
 use Rattle.model.specs.Answers.{Accepts, Answer, Drawn, Draws, Judges, Moves, Pen, Planned, Plans, Refuses, done, planRoom, unread, week}
 use Rattle.model.proofs.Fractions.{compare≤}
 use Rattle.model.proofs.Orders.{read-fits}
-use Rattle.model.proofs.ValidShares.{classes-of, shares-of}
+use Rattle.demands.proofs.Existence.{classes-of, shares-of}
 use Rattle.demands.proofs.Demand1.Decided.{dec-stands}
 use Rattle.model.proofs.Answers.{refuses-number}
 use Rattle.demands.proofs.Demand2.{accepted-or-refused}

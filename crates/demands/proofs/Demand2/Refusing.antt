@@ -17,7 +17,7 @@ use Rattle.model.specs.Answers.{Answer, FirstClass, Refuses, above, aboveTop, t
 use Rattle.model.proofs.Fractions.{compare≤}
 use Rattle.model.proofs.Orders.{Fit}
 use Rattle.model.proofs.Slots.{laid-stand}
-use Rattle.model.proofs.ValidShares.{classes-of, shares-of}
+use Rattle.demands.proofs.Existence.{classes-of, shares-of}
 use Rattle.demands.proofs.Demand2.FreePieces.{free-plan, none-above}
 
 -- the first of the classes is the first class

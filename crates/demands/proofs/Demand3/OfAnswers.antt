@@ -15,8 +15,8 @@ use Rattle.model.specs.Plans.{Slot, planRecords, slotsRead}
 use Rattle.model.specs.Stands.{Stands, ends, starts}
 use Rattle.model.specs.Line.{HasFan, OneOf, RunsAt, dosing, drawn, finished, gramsOf, idle, shut, stateAt, timeOf, unitsBefore}
 use Rattle.model.specs.Answers.{Accepts, Drawn, Draws, draws, no-dose, pointOf, refuses, too-late}
-use Rattle.demands.proofs.Demand3 as demand
 use Rattle.demands.proofs.Demand3.States.{Fed, fed-by, idle-free, inside}
+use Rattle.demands.proofs.Demand3 as demand
 
 -- an answer that is no refusal: the order is accepted, the plan stands, and the answer is the point
 record Done (order plan : List ℕ) (d t : ℕ) (x : Drawn) : Type 0 where

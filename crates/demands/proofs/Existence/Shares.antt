@@ -8,12 +8,12 @@ use native.Mathlib.Nat.{eq-or-lt-of-le}
 use native.Mathlib.Decide.{ℕ-discrete, decLe}
 use native.Mathlib.Omega.{arith}
 use lib.Dec.{T, ltb, ltb→lt, lt→ltb}
 use Rattle.model.specs.Sets.{sum, Doses, weight, Sub, Nonempty}
 use Rattle.model.specs.Classes.{Setting, Row, W}
 use Rattle.model.specs.Shares.{need, holds, got, given, Within, Leaves, Closed, sharesTotal}
 use Rattle.model.proofs.Sums.{sum-congr, sum-le, sum-zero}
 use Rattle.model.proofs.Sets.{weight-mono, weight-pos, weight-same, le-weight, and-left, and-right, and-both, or-left, or-right, or-elim, on-pos, on-yes, size, size-all}
-use Rattle.model.proofs.Raise.{put, put-other-dose, put-other-interval, got-put, given-put, given-other, total-put, put-within}
+use Rattle.demands.proofs.Existence.Raise.{put, put-other-dose, put-other-interval, got-put, given-put, given-other, total-put, put-within}
 
 -- some number below n passes the test
 unfoldable found : ℕ → (ℕ → Bool) → Bool
