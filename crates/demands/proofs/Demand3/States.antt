@@ -1,4 +1,4 @@
--- Dosing is a slot that covers the instant, and Idle is none. Assumes nothing.
+-- Finished comes first; Dosing is a slot that covers the instant, and Idle is none. Assumes nothing.
 use mathlib.Core.Bool.{Bool, true, false, _&&_}
 use mathlib.Core.Path.{_≡_, refl, sym}
 use mathlib.Core.List.{List, [], _∷_}
@@ -82,6 +82,12 @@ module _ (d t : ℕ) where
             };
             by = r .by;
           }
+
+  -- "Finished if t is at or past the deadline, else" the rest: whatever the release is, so that a dose that were released behind its
+  -- deadline would be Finished between the two, and not Shut
+  pub finished-first : (o : Order) (slots : List Slot) → doseAt o d .deadline ≤ t → stateAt o slots d t ≡ finished
+  unfolding stateAt
+  finished-first o slots h = rw (le-leb (doseAt o d .deadline) t h)
 
   -- a state that is neither Finished nor Shut: the tick is inside the window, and the state is by the slots
   pub inside : (o : Order) (slots : List Slot) (s : State) → (finished ≡ s → ⊥) → (shut ≡ s → ⊥) → stateAt o slots d t ≡ s
