@@ -1,4 +1,7 @@
 -- Demand 2, sentence by sentence: the rates, what the slots deliver, and the refusal for the top rate. Orders are those that are read, plans those that stand.
+pub mod FreeBound
+pub mod OwnPlan
+pub mod Refusal
 pub mod FreePieces
 pub mod Refusing
 pub mod Bays

@@ -1,6 +1,7 @@
 pub mod Sums
 pub mod Sets
 pub mod Fractions
+pub mod Products
 pub mod FanTime
 pub mod NextClass
 pub mod Same
@@ -12,9 +13,6 @@ pub mod Moments
 pub mod Amounts
 pub mod Waiting
 pub mod Certificate
-pub mod FreeBound
-pub mod OwnPlan
-pub mod Refusal
 pub mod Orders
 pub mod Readings
 pub mod Given

@@ -26,8 +26,7 @@ use Rattle.model.proofs.Cells.{cover}
 use Rattle.model.proofs.Moments.{House, Pieces, Runs, crew}
 use Rattle.model.proofs.Amounts.{ran}
 use Rattle.model.proofs.Certificate.{Totals}
-use Rattle.model.proofs.OwnPlan.{others, others-times, product}
-use Rattle.model.proofs.Refusal.{product-pos}
+use Rattle.model.proofs.Products.{others, others-times, product, product-pos}
 use Rattle.model.proofs.Intervals.{instants-rise}
 use Rattle.model.proofs.Lists.{All-at, Pairs-at, total-at}
 use Rattle.model.proofs.Windows.{active-there, first-instant, last-instant}

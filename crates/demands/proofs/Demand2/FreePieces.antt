@@ -23,12 +23,12 @@ use Rattle.model.proofs.FanTime.{weighs}
 use Rattle.model.proofs.Sequence.{nested}
 use Rattle.model.proofs.Cells.{cover}
 use Rattle.model.proofs.Moments.{Pieces, Runs}
-use Rattle.model.proofs.FreeBound.{Delivers}
+use Rattle.demands.proofs.Demand2.FreeBound.{Delivers}
 use Rattle.model.proofs.Orders.{Fit}
 use Rattle.model.proofs.Lists.{All-at, All-gather, Pairs-at, Pairs-gather, total-at, total-gather}
 use Rattle.model.proofs.Windows.{active-there, first-instant, heavy, last-instant, starts-open}
 use Rattle.model.proofs.PlanPieces.{crew-all, ends-by, eqb-flip, grid, grid-pos, houseOf, named-at, noSlot, pieces-run, pieces-total, piecesOf, scale, scale-class, slot-from, slot-to, slotAt, unit-pos}
-use Rattle.model.proofs.Refusal as Theory
+use Rattle.demands.proofs.Demand2.Refusal as Theory
 
 -- what stands for a slot past the last
 abbrev noFree : FreeSlot

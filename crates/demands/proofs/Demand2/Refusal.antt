@@ -1,18 +1,18 @@
 -- Refusal 9 is exact: a plan under the top rate exists just where the first class is not above it.
 use mathlib.Core.Path.{_∙_, _≡_, ap, refl}
-use Prim.Native.Nat.{_*_, _<_, _≤_, suc, zero, ℕ}
-use native.Mathlib.Nat.{mul-pos}
+use Prim.Native.Nat.{_*_, _<_, _≤_, ℕ}
 use native.Mathlib.Omega.{arith}
 use lib.Dec.{T}
 use Rattle.model.specs.Sets.{Doses, on, weight}
 use Rattle.model.specs.Classes.{Classes, P, Setting, W, classP}
 use Rattle.model.proofs.Sums.{one-term}
 use Rattle.model.proofs.Sets.{on-no, on-yes}
 use Rattle.model.proofs.Sequence.{all-in, one-class, stays-open, upto-find}
 use Rattle.model.proofs.Moments.{House, Pieces, Runs, crew}
 use Rattle.model.proofs.Certificate.{Totals}
-use Rattle.model.proofs.FreeBound.{Delivers, top-bound}
-use Rattle.model.proofs.OwnPlan.{Speeds, others, others-times, own-delivers, own-slow, product}
+use Rattle.demands.proofs.Demand2.FreeBound.{Delivers, top-bound}
+use Rattle.demands.proofs.Demand2.OwnPlan.{Speeds, own-delivers, own-slow}
+use Rattle.model.proofs.Products.{others, others-times, product, product-pos}
 
 -- a plan with any moments and any rates up to the top, that delivers every dose
 pub record FreePlan (S : Setting) (G : House S) (topGrams topSeconds : ℕ) : Type 0 where
@@ -24,12 +24,6 @@ pub record FreePlan (S : Setting) (G : House S) (topGrams topSeconds : ℕ) : Ty
   pub whole : 0 < denominator
   pub delivers : Delivers S pieces rate denominator
   pub slow : (i : ℕ) → i < pieces .m → rate i * topSeconds ≤ topGrams * denominator
-
--- a product of numbers above 0 is above 0
-pub product-pos : (p : ℕ) (f : ℕ → ℕ) → ((i : ℕ) → i < p → 0 < f i) → 0 < product p f
-unfolding product
-product-pos zero f h = omega arith
-product-pos (suc p) f h = mul-pos (product-pos p f (λ i q. h i (omega arith))) (h p (omega arith))
 
 module _ (S : Setting) (G : House S) (topGrams topSeconds : ℕ) where
   open Setting S using (doses as n)

@@ -1,51 +1,16 @@
 -- The classes' own pieces, each at its class's rate: each dose has its grams, and no rate is above the first class's.
-use mathlib.Core.Bool.{Bool, false, true}
-use mathlib.Core.Logic.{inl, inr}
-use mathlib.Core.Path.{_∙_, _≡_, ap, refl}
-use Prim.Native.Nat.{_*_, _-_, _<_, _≤_, suc, zero, ℕ}
+use mathlib.Core.Path.{_∙_, _≡_, ap}
+use Prim.Native.Nat.{_*_, _-_, _<_, _≤_, ℕ}
 use native.Mathlib.Nat.{eq-of-mul-eq-mul-left, le-of-mul-le-mul-left, mul-comm, mul-le-mul-left, mul-pos}
 use native.Mathlib.Omega.{arith}
-use borrow.Author.Tests.{eq-eqb, ne-eqb}
 use lib.Dec.{T, eqb, eqb→eq}
 use Rattle.model.specs.Sets.{Doses, weight}
 use Rattle.model.specs.Classes.{Classes, P, Row, Setting, W, classP, free}
-use Rattle.model.proofs.Sums.{last}
 use Rattle.model.proofs.Sets.{weight-on-set, weight-scale}
 use Rattle.model.proofs.Sequence.{all-in, no-slower, stays-open, upto-find}
 use Rattle.model.proofs.Moments.{House, Pieces, Runs, crew}
 use Rattle.model.proofs.Certificate.{Totals}
-use Rattle.model.proofs.FreeBound.{Delivers}
-
--- ---- a common denominator
-
--- the product of the first p numbers
-unfoldable pub product : ℕ → (ℕ → ℕ) → ℕ
-product zero f = 1
-product (suc p) f = product p f * f p
-
-abbrev unless : Bool → ℕ → ℕ
-unless true x = 1
-unless false x = x
-
--- the product of all but one
-unfoldable pub others : ℕ → (ℕ → ℕ) → ℕ → ℕ
-others p f l = product p (λ i. unless (eqb l i) (f i))
-
-product-congr : (p : ℕ) (f g : ℕ → ℕ) → ((i : ℕ) → i < p → f i ≡ g i) → product p f ≡ product p g
-unfolding product
-product-congr zero f g h = refl
-product-congr (suc p) f g h = rw (product-congr p f g (λ i q. h i (omega arith)), h p (omega arith))
-
--- times that one, it is the product
-pub others-times : (p : ℕ) (f : ℕ → ℕ) (l : ℕ) → l < p → others p f l * f l ≡ product p f
-unfolding others product
-others-times zero f l h = absurd (omega arith)
-others-times (suc p) f l h = elim (last h) [
-  | inl e ↦ rw (e, eq-eqb p p refl, product-congr p (λ i. unless (eqb p i) (f i)) f (λ i q. rw (ne-eqb p i (omega arith)))) (omega arith)
-  | inr q ↦ rw (ne-eqb l p (omega arith), ← others-times p f l q) (omega arith)
-]
-
--- ---- the plan
+use Rattle.demands.proofs.Demand2.FreeBound.{Delivers}
 
 -- the rate of class l is speed l / R
 abbrev pub Speeds : (S : Setting) → Row → ℕ → (ℕ → Doses) → ℕ → (ℕ → ℕ) → Type 0
