@@ -4,6 +4,7 @@ pub mod OwnPlan
 pub mod Refusal
 pub mod FreePieces
 pub mod Refusing
+pub mod Standing
 pub mod Bays
 pub mod Planning
 pub mod OfAnswers
@@ -30,7 +31,8 @@ use Rattle.model.proofs.Orders.{read-fits}
 use Rattle.model.proofs.ValidShares.{class-open}
 use Rattle.demands.proofs.Existence.{classes-of}
 use Rattle.demands.proofs.Demand2.FreePieces.{none-above}
-use Rattle.model.proofs.Standing.{plan-line, slot-named, slot-rate, slots-apart}
+use Rattle.model.proofs.Standing.{plan-line}
+use Rattle.demands.proofs.Demand2.Standing.{slot-named, slot-rate, slots-apart}
 use Rattle.demands.proofs.Demand2.Bays.{bays-apart}
 use Rattle.demands.proofs.Demand2.Refusing.{above-none, free-or-above, refused-names}
 use Rattle.demands.proofs.Demand2.Planning.{accepted-plan, planned}

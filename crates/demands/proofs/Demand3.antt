@@ -1,4 +1,6 @@
 -- Demand 3, sentence by sentence, for every plan that stands: the drawn line, and doses without a fan.
+pub mod Waiting
+pub mod WithoutFan
 pub mod States
 pub mod OfAnswers
 use mathlib.Core.Logic.{_⊎_}
@@ -17,8 +19,10 @@ use Rattle.model.specs.Stands.{Stands, ends, starts}
 use Rattle.model.specs.Line.{HasFan, OneOf, RunsAt, drawn, gramsOf, timeOf, unitsBefore}
 use Rattle.model.proofs.Amounts.{drawn-near, drawn-slow}
 use Rattle.model.proofs.Orders.{read-fits}
-use Rattle.model.proofs.DrawnLine.{Line, rests}
-use Rattle.model.proofs.Standing.{plan-line, plan-rate, plan-waits}
+use Rattle.model.proofs.DrawnLine.{Line}
+use Rattle.demands.proofs.Demand3.WithoutFan.{rests, runs-others}
+use Rattle.model.proofs.Standing.{plan-line, plan-rate}
+use Rattle.model.proofs.Planner.{stand-read}
 
 module _ (order : List ℕ) (o : Order) (e : readOrder order ≡ read o) (plan : List ℕ) (st : Stands o plan) (d : ℕ) (dn : d < settingOf o .doses) where
   -- the slots of the plan
@@ -70,4 +74,4 @@ module _ (order : List ℕ) (o : Order) (e : readOrder order ≡ read o) (plan :
   -- "Inside its window a dose is without a fan only if every fan is running, each at that dose's rate or above"
   pub waits-only-while-all-fans-run : (q x : ℕ) → 0 < q → q * doseAt o d .release ≤ x → x < q * doseAt o d .deadline → (HasFan slots q x d → ⊥)
       → (f : ℕ) → 1 ≤ f → f ≤ o .fans → RunsAt slots q x f (gramsOf slots d) (timeOf slots d)
-  waits-only-while-all-fans-run = plan-waits o plan st (read-fits order o e) d dn
+  waits-only-while-all-fans-run = runs-others o (read-fits order o e) (st .count) (st .sets) (st .classes) slots (stand-read st) d dn

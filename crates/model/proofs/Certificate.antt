@@ -6,15 +6,15 @@ use Prim.Native.Nat.{_*_, _+_, _-_, _<_, _≤_, suc, zero, ℕ}
 use native.Mathlib.Nat.{eq-of-mul-eq-mul-left, eq-or-lt-of-le, eq-zero-or-pos, le-of-lt, le-of-mul-le-mul-left, mul-le-mul-left}
 use native.Mathlib.Omega.{arith}
 use lib.Dec.{T, eqb}
-use Rattle.model.specs.Sets.{Doses, Nonempty, Sub, weight}
+use Rattle.model.specs.Sets.{Doses, Nonempty, Sub, weight, sum}
 use Rattle.model.specs.Classes.{Classes, P, Row, Setting, W, classP, free, openFans, remaining, reserved}
-use Rattle.model.proofs.Sets.{_∖_, _∩_, and-both, and-left, and-right, weight-on-set, weight-part, weight-pos, weight-scale}
+use Rattle.model.proofs.Sums.{sum-congr, sum-scale}
+use Rattle.model.proofs.Sets.{_∖_, _∩_, and-both, and-left, and-right, weight-on-set, weight-part, weight-pos, weight-scale, weight-empty, weight-union}
 use Rattle.model.proofs.FanTime.{Heavy, P-part, left, openFans-alike, openFans-union, weighs}
 use Rattle.model.proofs.Fractions.{denser′}
 use Rattle.model.proofs.NextClass.{next-class}
-use Rattle.model.proofs.Sequence.{Nested, free-left, nested-apart, upto}
+use Rattle.model.proofs.Sequence.{Nested, free-left, nested-apart, upto, prefix}
 use Rattle.model.proofs.Moments.{House, InInterval, Pieces, Runs, crew, crowd, gather, running, running-mono, running-union, time, time-bound, time-full}
-use Rattle.model.proofs.Waiting.{Exact, takes-all}
 
 -- ---- rates
 
@@ -93,6 +93,22 @@ module _ (S : Setting) (F : Row) (p : ℕ) (C : ℕ → Doses) where
 
 -- ---- counting
 
+-- what the pieces of the first i sets have together is what the pieces of their union have
+piece-prefix : (n : ℕ) (C : ℕ → Doses) (m : ℕ) (dose f : ℕ → ℕ) → ((q : ℕ) → q < m → dose q < n) → (i : ℕ) → Nested n C i
+    → sum i (λ l. weight m f (λ q. C l (dose q))) ≡ weight m f (λ q. upto C i (dose q))
+unfolding sum upto
+piece-prefix n C m dose f h zero g = sym (weight-empty m f)
+piece-prefix n C m dose f h (suc i) g =
+    omega (
+      arith,
+      piece-prefix n C m dose f h i (λ l q. g l (omega arith)),
+      weight-union m f (λ q. upto C i (dose q)) (λ q. C i (dose q)) (λ q l. nested-apart n C i g (dose q) (h q l)),
+    )
+
+-- the pieces of each class take its open fan time
+abbrev pub Exact : (S : Setting) → House S → Pieces → ℕ → (ℕ → Doses) → Type 0
+Exact S G Z p C = (l : ℕ) → l < p → time Z (C l) ≡ Z .Q * classP S (crew G) C l
+
 -- the pieces of dose k of set l last Q * grams * P / W cells
 abbrev pub Totals : (S : Setting) → House S → Pieces → ℕ → (ℕ → Doses) → Type 0
 Totals S G Z p C =
@@ -106,6 +122,14 @@ module _ (S : Setting) (G : House S) (Z : Pieces) (h : Runs S G Z) (p : ℕ) (C 
 
   abbrev F : Row
   F = crew G
+
+  -- the first classes take together all that they can
+  pub takes-all : Exact S G Z p C → Nested n C p → (i : ℕ) → i ≤ p → time Z (upto C i) ≡ Q * P S F (upto C i)
+  takes-all exact g i l =
+      let down : Nested n C i = λ k q. g k (omega arith) in
+      sym (piece-prefix n C m dose (λ i. e i - s i) (h .in-dose) i down)
+      ∙ sum-congr i (λ k r. exact k (omega arith)) ∙ sum-scale i Q _
+      ∙ ap (λ (y : ℕ). Q * y) (prefix S F C i down)
 
   module _ (totals : Totals S G Z p C) where
     -- a part of a set takes what its grams say
@@ -123,7 +147,7 @@ module _ (S : Setting) (G : House S) (Z : Pieces) (h : Runs S G Z) (p : ℕ) (C 
       full : (i : ℕ) → i ≤ p → (j x : ℕ) → j < J → InInterval Q τ j x → running Z (upto C i) x ≡ openFans S F (upto C i) j
       full i l =
           time-full S G Z h (upto C i)
-          (omega (arith, takes-all S G Z h p C (exact heavy some) nest i l))
+          (omega (arith, takes-all (exact heavy some) nest i l))
 
       -- at every cell a set runs as many fans as it has reserved
       pub runs-reserved : (i : ℕ) → i < p → (j x : ℕ) → j < J → InInterval Q τ j x → running Z (C i) x ≡ reserved S F C i j

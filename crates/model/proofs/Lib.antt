@@ -11,7 +11,6 @@ pub mod Sequence
 pub mod Cells
 pub mod Moments
 pub mod Amounts
-pub mod Waiting
 pub mod Certificate
 pub mod Orders
 pub mod Readings

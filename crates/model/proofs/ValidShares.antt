@@ -1,4 +1,4 @@
--- Shares with nothing missing are valid, and every class has open fan time.
+-- Shares with nothing missing are valid, and every class has grams and open fan time.
 use mathlib.Core.Path.{_∙_, _≡_}
 use Prim.Native.Nat.{ℕ, _*_, _≤_, _<_}
 use native.Mathlib.Omega.{arith}
@@ -10,10 +10,11 @@ use Rattle.model.specs.Intervals.{fansPresent, settingOf}
 use Rattle.model.specs.Shares.{Valid, Within, given, got, holds, missing, need, short}
 use Rattle.model.proofs.Sums.{sum-congr, sum-scale, sum-swap, sum-tight}
 use Rattle.model.proofs.Sets.{le-weight}
+use Rattle.model.proofs.FanTime.{weighs}
 use Rattle.model.proofs.Chains.{given-out}
 use Rattle.model.proofs.Sequence.{remaining-open}
 use Rattle.model.proofs.Orders.{Fit}
-use Rattle.model.proofs.Windows.{starts-open}
+use Rattle.model.proofs.Windows.{heavy, starts-open}
 
 module _ (S : Setting) (row : Row) (A : Doses) where
   open Setting S using (doses as n, intervals as J, grams, len)
@@ -35,6 +36,10 @@ module _ (S : Setting) (row : Row) (A : Doses) where
     valid-if-met = record { roomy = w .roomy; full = λ j l. sum-tight J (w .held) given-all j l; met = meets }
 
 module _ (o : Order) (p : ℕ) (C : ℕ → Doses) (c : Classes (settingOf o) (fansPresent o) p C) where
+  -- every class has grams
+  pub class-weighs : Fit o → (i : ℕ) → i < p → 0 < W (settingOf o) (C i)
+  class-weighs fit i l = weighs (settingOf o) (heavy o fit) (C i) (c .next i l .some)
+
   -- "P is above zero": every class has open fan time
   pub class-open : Fit o → (i : ℕ) → i < p → 0 < classP (settingOf o) (fansPresent o) C i
   class-open fit i l =

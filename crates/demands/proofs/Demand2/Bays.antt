@@ -14,7 +14,7 @@ use Rattle.model.proofs.Fractions.{compare≤}
 use Rattle.model.proofs.Lists.{All-at}
 use Rattle.model.proofs.Orders.{Fit}
 use Rattle.model.proofs.Planner.{stand-read}
-use Rattle.model.proofs.Standing.{slots-apart}
+use Rattle.demands.proofs.Demand2.Standing.{slots-apart}
 
 -- a slot between two ticks covers a moment between them
 covered : (from to q x : ℕ) (s : Slot) → 0 < s .grams → Between from to s → Covers q x s → (from * q ≤ x) × (x < to * q)

@@ -19,15 +19,15 @@ use Rattle.model.specs.Stands.{NoOverlap, SlotsStand, ends, starts}
 use Rattle.model.specs.FreePlans.{FreeNamed, FreeNoOverlap, FreePlan, FreeSlot}
 use Rattle.model.proofs.Sums.{sum-congr}
 use Rattle.model.proofs.Sets.{and-left, and-right}
-use Rattle.model.proofs.FanTime.{weighs}
 use Rattle.model.proofs.Sequence.{nested}
 use Rattle.model.proofs.Cells.{cover}
 use Rattle.model.proofs.Moments.{Pieces, Runs}
 use Rattle.demands.proofs.Demand2.FreeBound.{Delivers}
 use Rattle.model.proofs.Orders.{Fit}
 use Rattle.model.proofs.Lists.{All-at, All-gather, Pairs-at, Pairs-gather, total-at, total-gather}
-use Rattle.model.proofs.Windows.{active-there, first-instant, heavy, last-instant, starts-open}
+use Rattle.model.proofs.Windows.{active-there, first-instant, last-instant, starts-open}
 use Rattle.model.proofs.PlanPieces.{crew-all, ends-by, eqb-flip, grid, grid-pos, houseOf, named-at, noSlot, pieces-run, pieces-total, piecesOf, scale, scale-class, slot-from, slot-to, slotAt, unit-pos}
+use Rattle.model.proofs.ValidShares.{class-weighs}
 use Rattle.demands.proofs.Demand2.Refusal as Theory
 
 -- what stands for a slot past the last
@@ -112,7 +112,7 @@ module _ (o : Order) (fit : Fit o) (p : ℕ) (C : ℕ → Doses) (c : Classes (s
   S = settingOf o
 
   some : (l : ℕ) → l < p → 0 < W S (C l)
-  some l h = weighs S (heavy o fit) (C l) (c .next l h .some)
+  some = class-weighs o p C c fit
 
   pos : 0 < grid o p C 1
   pos = grid-pos o p C 1 some (omega arith)

@@ -1,18 +1,18 @@
 -- Where the classes' pieces take exactly the classes' fan time, a dose waits only while every fan runs a dose of its class or an earlier one.
 use mathlib.Core.Bool.{Bool, _&&_, not}
 use mathlib.Core.Logic.{inl, inr}
-use mathlib.Core.Path.{_∙_, _≡_, ap, sym}
-use Prim.Native.Nat.{_*_, _-_, _<_, _≤_, suc, zero, ℕ}
+use mathlib.Core.Path.{_≡_, sym}
+use Prim.Native.Nat.{_*_, _<_, _≤_, suc, ℕ}
 use native.Mathlib.Nat.{eq-zero-or-pos, le-of-suc-le-suc}
 use native.Mathlib.Omega.{arith}
 use lib.Dec.{T, eqb, eqb-refl, eqb→eq, not-T}
-use Rattle.model.specs.Sets.{Doses, sum, weight}
+use Rattle.model.specs.Sets.{Doses}
 use Rattle.model.specs.Classes.{Classes, P, Setting, W, activeIn, classP, openFans}
-use Rattle.model.proofs.Sums.{sum-congr, sum-scale}
-use Rattle.model.proofs.Sets.{_∖_, and-both, and-left, and-not, and-right, le-weight, size, weight-and, weight-empty, weight-lt, weight-pos, weight-union}
-use Rattle.model.proofs.Sequence.{Nested, nested, nested-apart, no-slower, prefix, upto, upto-find, upto-has}
+use Rattle.model.proofs.Sets.{_∖_, and-both, and-left, and-not, and-right, le-weight, size, weight-and, weight-lt, weight-pos}
+use Rattle.model.proofs.Sequence.{nested, no-slower, upto, upto-find, upto-has}
 use Rattle.model.proofs.Cells.{cover, inject}
 use Rattle.model.proofs.Moments.{House, InInterval, Pieces, Runs, crew, time, time-full}
+use Rattle.model.proofs.Certificate.{Exact, takes-all}
 
 -- no two to one, and as many as there are: every one is met
 pub meets : (m n : ℕ) (X Y : Doses) (f : ℕ → ℕ) → ((i : ℕ) → i < m → T (X i) → (f i < n) × T (Y (f i)))
@@ -32,22 +32,6 @@ meets m n X Y f into one all y l t = elim (eq-zero-or-pos (size m (λ i. X i && 
       let r = weight-pos m (λ i. 1) (λ i. X i && eqb (f i) y) p in
       (r .0, r .1, and-left (X (r .0)) (eqb (f (r .0)) y) (r .2), eqb→eq (f (r .0)) y (and-right (X (r .0)) (eqb (f (r .0)) y) (r .2)))
 ]
-
--- what the pieces of the first i sets have together is what the pieces of their union have
-pub piece-prefix : (n : ℕ) (C : ℕ → Doses) (m : ℕ) (dose f : ℕ → ℕ) → ((q : ℕ) → q < m → dose q < n) → (i : ℕ) → Nested n C i
-    → sum i (λ l. weight m f (λ q. C l (dose q))) ≡ weight m f (λ q. upto C i (dose q))
-unfolding sum upto
-piece-prefix n C m dose f h zero g = sym (weight-empty m f)
-piece-prefix n C m dose f h (suc i) g =
-    omega (
-      arith,
-      piece-prefix n C m dose f h i (λ l q. g l (omega arith)),
-      weight-union m f (λ q. upto C i (dose q)) (λ q. C i (dose q)) (λ q l. nested-apart n C i g (dose q) (h q l)),
-    )
-
--- the pieces of each class take its open fan time
-abbrev pub Exact : (S : Setting) → House S → Pieces → ℕ → (ℕ → Doses) → Type 0
-Exact S G Z p C = (l : ℕ) → l < p → time Z (C l) ≡ Z .Q * classP S (crew G) C l
 
 module _ (S : Setting) (G : House S) (Z : Pieces) (h : Runs S G Z) where
   open Setting S using (doses as n, intervals as J, active)
@@ -88,15 +72,6 @@ module _ (S : Setting) (G : House S) (Z : Pieces) (h : Runs S G Z) where
         (λ i i′ r r′ t t′. h .fans-apart x i i′ r r′ (on-it i t) (on-it i′ t′))
         (omega (arith, fewer d dl u a waits, time-full S G Z h U full j x jl q))
 
-  module _ (p : ℕ) (C : ℕ → Doses) where
-    -- the first classes take together all that they can
-    pub takes-all : Exact S G Z p C → Nested n C p → (i : ℕ) → i ≤ p → time Z (upto C i) ≡ Q * P S (crew G) (upto C i)
-    takes-all exact g i l =
-        let down : Nested n C i = λ k q. g k (omega arith) in
-        sym (piece-prefix n C m dose (λ i. e i - s i) (h .in-dose) i down)
-        ∙ sum-congr i (λ k r. exact k (omega arith)) ∙ sum-scale i Q _
-        ∙ ap (λ (y : ℕ). Q * y) (prefix S (crew G) C i down)
-
   module _ (p : ℕ) (C : ℕ → Doses) (c : Classes S (crew G) p C) where
     -- the fan f runs, at the cell x, a dose of a class that is no later and no slower than class i
     pub record Served (i x f : ℕ) : Type 0 where
@@ -127,5 +102,5 @@ module _ (S : Setting) (G : House S) (Z : Pieces) (h : Runs S G Z) where
     pub waiting : Exact S G Z p C → (i d : ℕ) → i < p → d < n → T (C i d) → (j x : ℕ) → j < J → InInterval Q τ j x → T (active d j)
         → ((q : ℕ) → q < m → T (cover (s q) (e q) x) → dose q ≡ d → ⊥) → (f : ℕ) → f < fans → T (present f j) → Served i x f
     waiting exact i d il dl cd j x jl at act waits f fl fp =
-        let r = all-fans (upto C (suc i)) (omega (arith, takes-all p C exact (nested S (crew G) p C c p (omega arith)) (suc i) il)) j x jl at d dl (upto-has C (suc i) i d (omega arith) cd) act waits f fl fp in
+        let r = all-fans (upto C (suc i)) (omega (arith, takes-all S G Z h p C exact (nested S (crew G) p C c p (omega arith)) (suc i) il)) j x jl at d dl (upto-has C (suc i) i d (omega arith) cd) act waits f fl fp in
         served i x f il (r .0) (r .1) (r .2) (r .3)
