@@ -1,4 +1,5 @@
 pub mod Cases
+pub mod Written
 pub mod Existence
 pub mod Greatest
 pub mod Demand1

@@ -20,7 +20,7 @@ use Rattle.model.specs.Cases.{Case, Right, listed, oneFan, caseSets, casePlan, 
 use Rattle.model.specs.CaseTests.{before, early, late, split}
 use Rattle.model.proofs.Lists.{Pairs-imp}
 use Rattle.model.proofs.Orders.{read-fits}
-use Rattle.model.proofs.Planner.{written-stands}
+use Rattle.demands.proofs.Written.{written-stands}
 use Rattle.model.proofs.Answers.{refuses-number}
 use Rattle.demands.proofs.Cases.{cases-right}
 
