@@ -1,4 +1,5 @@
 pub mod Cases
+pub mod Laid
 pub mod Written
 pub mod Existence
 pub mod Greatest

@@ -20,7 +20,7 @@ use Rattle.model.proofs.Sequence.{few-classes}
 use Rattle.model.proofs.Orders.{Fit}
 use Rattle.model.proofs.Intervals.{instants-week}
 use Rattle.model.proofs.Lists.{All-gather, All-imp}
-use Rattle.model.proofs.Slots.{laid-stand}
+use Rattle.demands.proofs.Laid.{laid-stand}
 use Rattle.demands.proofs.Written.Plans.{NarrowClass, NarrowSlot, plan-back}
 use Rattle.model.proofs.Planner.{grams-most, time-most, weight-most}
 

@@ -18,7 +18,6 @@ pub mod Given
 pub mod Intervals
 pub mod Lists
 pub mod Wrap
-pub mod Lanes
 pub mod Slots
 pub mod Records
 pub mod Plans

@@ -1,17 +1,16 @@
 -- Laws of the slots of one class in one interval: each lies there, they follow each other, and each share is whole.
 use mathlib.Core.Path.{_∙_, _≡_, ap, refl}
-use Prim.Native.Nat.{ℕ, _+_, _*_, _-_, _/_, _%_, _≤_, _<_}
+use Prim.Native.Nat.{ℕ, _+_, _*_, _/_, _%_, _≤_, _<_}
 use native.Mathlib.Nat.{div-add-mod', lt-of-mul-lt-mul-right, mod-lt, mul-le-mul-right, mul-pos}
 use native.Mathlib.Omega.{arith}
 use lib.Dec.{eqb}
-use lib.ListN.{length, length-map}
 use Rattle.model.specs.Sets.{sum, on}
 use Rattle.model.specs.Lists.{All, Pairs, total}
 use Rattle.model.specs.Plans.{Slot}
 use Rattle.model.specs.Layout.{Piece, Lane, laneSlots, line, pieceSlot}
 use Rattle.model.specs.Stands.{Between, EndsBy, ends, starts, unitsOf}
 use Rattle.model.proofs.Lists.{All-imp, All-map, Pairs-map, Pairs-with, total-congr, total-map}
-use Rattle.model.proofs.Wrap.{Follow, Placed, above, line-few, line-follow, line-placed, line-units, units}
+use Rattle.demands.proofs.Laid.Wrap.{Follow, Placed, line-follow, line-placed, line-units, units}
 
 -- a moment's fraction, put together again
 moment : (τ s W : ℕ) → (τ + s / W) * W + s % W ≡ τ * W + s
@@ -99,13 +98,3 @@ module _ (l : Lane) (x : ℕ → ℕ) (n m : ℕ) (heavy : 0 < l .grams) (wide :
     where
       same : (t : Piece) → unitsOf d (pieceSlot l t) ≡ units d t
       same t = ap (on (eqb d (t .dose))) (omega (arith, moment (l .start) (t .low) (l .grams), moment (l .start) (t .high) (l .grams)))
-
-  -- a slot for each share above zero, and one for each fan but the first
-  pub laid-few : length (laneSlots l x n) ≤ above n x + (m - 1)
-  unfolding laneSlots
-  laid-few =
-      omega (
-        arith,
-        length-map (line (l .len * l .grams) x n) (pieceSlot l),
-        line-few (l .len * l .grams) (mul-pos wide heavy) x n most m full,
-      )
