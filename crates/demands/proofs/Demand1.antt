@@ -1,4 +1,6 @@
 -- Demand 1, sentence by sentence: over the answers of planning, judging, drawing and the pen, for any bytes, doses and ticks whatever. Assumes nothing.
+pub mod ByOrder
+pub mod Agreeing
 pub mod Decided
 pub mod EveryCall
 pub mod Rows
@@ -17,7 +19,9 @@ use Rattle.model.specs.Layout.{slotsOf}
 use Rattle.model.specs.Stands.{Stands}
 use Rattle.model.specs.Line.{shut}
 use Rattle.model.specs.Answers.{Accepts, Answer, Drawn, Draws, Judges, Moves, Pen, Planned, Plans, planBytes}
-use Rattle.model.proofs.Answers.{Agree, drawn-order, draws-one, judged-order, judges-one, moves-one, pen-draws, pen-goes, plan-settled, plans-agree, refuses-number, same-slots}
+use Rattle.demands.proofs.Demand1.Agreeing.{Agree, plans-agree}
+use Rattle.demands.proofs.Demand1.ByOrder.{drawn-order, judged-order}
+use Rattle.model.proofs.Answers.{draws-one, judges-one, moves-one, pen-draws, pen-goes, plan-settled, refuses-number, same-slots}
 use Rattle.demands.proofs.Demand1.EveryCall.{draws-some, judges-some, moves-some, plans-some}
 use Rattle.demands.proofs.Demand1.Rows.{DrawingRow, GivenExactly, JudgingRow, OnlyMeant, PlanningRow, drawing-given, judging-given, order-meant, planning-given, planning-meant}
 use Rattle.demands.proofs.Demand2.Planning.{kept, plan-in-front}

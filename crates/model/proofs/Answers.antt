@@ -1,30 +1,27 @@
--- Answers are settled: refusals of an order, verdicts, points and pens are unique, and two plannings agree on all but the shares' choice.
+-- Answers are settled: refusals of an order, verdicts, points and pens are unique, and so is a plan where the shares are the same.
 use mathlib.Core.Path.{_≡_, refl, sym, ap, ap₂, subst, fun-ext, _∙_}
 use mathlib.Core.Bool.{true}
 use mathlib.Core.Logic.{_≢_}
-use mathlib.Core.List.{List, [], _∷_, _++_, map, append-assoc}
+use mathlib.Core.List.{List, [], _∷_, _++_, map}
 use Prim.Native.Nat.{ℕ, zero, suc, _+_, _*_, _≤_, _<_, _^_}
 use native.Mathlib.Omega.{arith}
 use borrow.Author.Tests.{ne-eqb}
 use lib.Dec.{T, eqb}
-use lib.ListN.{length, drop}
 use Rattle.model.specs.Sets.{Doses}
 use Rattle.model.specs.Records.{pick, refused}
 use Rattle.model.specs.Orders.{Order, readOrder}
 use Rattle.model.specs.Lists.{gather}
 use Rattle.model.specs.Classes.{Setting, Row, P, Classes, free, reserved, classP}
-use Rattle.model.specs.Plans.{Class, Slot, classRecord, slotRecord, planOf, recordsBytes}
+use Rattle.model.specs.Plans.{Class, Slot, planOf, recordsBytes}
 use Rattle.model.specs.Layout.{Piece, Lane, cut, line, pieceSlot, laneSlots, lane, intervalSlots, tableSlots, tableOf, slotsOf, classAt, classesOf}
 use Rattle.model.specs.Intervals.{instantAt, settingOf, fansPresent}
 use Rattle.model.specs.Stands.{Stands}
-use Rattle.model.specs.Answers.{Answer, refusal, FirstClass, aboveTop, tooFast, Refuses, unread, above, Accepts, Planned, Plans, Judges, Drawn, noPoint, pointOf, Draws, Pen, Moves, overwritten, planBytes, planRoom}
+use Rattle.model.specs.Answers.{Answer, refusal, FirstClass, aboveTop, tooFast, Refuses, unread, above, Accepts, Judges, Drawn, noPoint, pointOf, Draws, Pen, Moves, planBytes}
 use Rattle.model.proofs.Sets.{Alike, weight-alike}
 use Rattle.model.proofs.Sums.{sum-congr}
 use Rattle.model.proofs.FanTime.{P-alike, openFans-alike}
-use Rattle.model.proofs.Lists.{length-singles}
-use Rattle.model.proofs.Plans.{records-append}
 use Rattle.model.proofs.NextClass.{next-unique}
-use Rattle.model.proofs.Sequence.{count-unique, classes-unique, free-alike}
+use Rattle.model.proofs.Sequence.{classes-unique, free-alike}
 use Rattle.model.proofs.Orders.{no-refusal}
 use Rattle.model.proofs.Given.{given-exactly, row-number}
 
@@ -83,30 +80,6 @@ judges-one {order} {plan} (Judges.falls o g h) (Judges.stands o′ g′ h′) = 
 judges-one (Judges.stands o g h) (Judges.refuses b s) = absurd (refused-not-accepted s g)
 judges-one {order} {plan} (Judges.stands o g h) (Judges.falls o′ g′ h′) = absurd (h′ (subst (λ (o : Order). Stands o plan) (one-order g g′) h))
 judges-one (Judges.stands o g h) (Judges.stands o′ g′ h′) = refl
-
--- what verdicts, points and plans with room have in common: the order is refused, or it is accepted and the answer has another number and no place
-pub data OfOrder (order : List ℕ) : Answer → Type 0 where
-  order-refused : (a : Answer) → Refuses order a → OfOrder order a
-  order-accepted : (number : ℕ) (o : Order) → Accepts order o → number ≢ 9 → OfOrder order (refusal number 0)
-
--- a verdict
-pub judged-order : {order plan : List ℕ} {a : Answer} → Judges order plan a → OfOrder order a
-judged-order (Judges.refuses a r) = order-refused a r
-judged-order (Judges.falls o g h) = order-accepted 10 o g (omega arith)
-judged-order (Judges.stands o g h) = order-accepted 0 o g (omega arith)
-
--- a point
-pub drawn-order : {order plan : List ℕ} {d t : ℕ} {x : Drawn} → Draws order plan d t x → OfOrder order (x .answer)
-drawn-order (Draws.refuses a j n) = judged-order j
-drawn-order (Draws.no-dose o g h l) = order-accepted 11 o g (omega arith)
-drawn-order (Draws.too-late o g h l w) = order-accepted 12 o g (omega arith)
-drawn-order (Draws.draws o g h l w) = order-accepted 0 o g (omega arith)
-
--- a plan, in a buffer with room
-pub planned-order : {order before : List ℕ} {r : Planned} {after : List ℕ} → planRoom ≤ length before → Plans order before r after → OfOrder order (r .answer)
-planned-order room (Plans.no-room s) = absurd (omega arith)
-planned-order room (Plans.refuses w a q) = order-refused a q
-planned-order room (Plans.plans w o g p C c x v) = order-accepted 0 o g (omega arith)
 
 -- ---- points and pens
 
@@ -221,78 +194,3 @@ module _ (o : Order) (p : ℕ) (C C′ : ℕ → Doses) (c : Classes (settingOf 
     -- and every byte of the plan
     pub plan-settled : planBytes o p C x ≡ planBytes o p C′ x′
     plan-settled = ap₂ (λ (l : List Class) (m : List Slot). recordsBytes (planOf l m)) classes-settled same-slots
-
--- two sequences of classes have one count, and so the same C records
-pub classes-alike : (o : Order) (p p′ : ℕ) (C C′ : ℕ → Doses) → Classes (settingOf o) (fansPresent o) p C → Classes (settingOf o) (fansPresent o) p′ C′
-    → classesOf o p C ≡ classesOf o p′ C′
-classes-alike o p p′ C C′ c c′ =
-    let same = count-unique (settingOf o) (fansPresent o) p p′ C C′ c c′ in
-    classes-settled o p C C′ c (subst (λ (p : ℕ). Classes (settingOf o) (fansPresent o) p C′) (sym same) c′) ∙ ap (λ (p : ℕ). classesOf o p C′) same
-
--- two plannings of an order into one buffer agree on the answer, the classes and their records, which stand in front
-pub record Agree (before : List ℕ) (r r′ : Planned) (after after′ : List ℕ) : Type 0 where
-  pub answer : r .answer ≡ r′ .answer
-  pub classes : r .classes ≡ r′ .classes
-  pub front : List Class
-  pub counted : length front ≡ r .classes
-  pub rest : List ℕ
-  pub rest′ : List ℕ
-  pub behind : after ≡ recordsBytes (map classRecord front) ++ rest
-  pub behind′ : after′ ≡ recordsBytes (map classRecord front) ++ rest′
-  -- where nothing was planned, the buffer is as it was
-  pub kept : r .answer .number ≢ 0 → (after ≡ before) × (after′ ≡ before)
-
--- nothing was planned
-both-kept : (before : List ℕ) (a a′ : Answer) → a ≡ a′
-    → Agree before (record { answer = a; classes = 0; slots = 0 }) (record { answer = a′; classes = 0; slots = 0 }) before before
-unfolding recordsBytes
-both-kept before a a′ e = record {
-  answer = e;
-  classes = refl;
-  front = [];
-  counted = refl;
-  rest = before;
-  rest′ = before;
-  behind = refl;
-  behind′ = refl;
-  kept = λ n. (refl, refl);
-}
-
--- the S records, and the rest of the buffer
-abbrev back : List ℕ → List Class → List Slot → List ℕ
-back before classes slots = recordsBytes (map slotRecord slots) ++ drop (length (recordsBytes (planOf classes slots))) before
-
--- a plan is its C records and what is behind them
-in-front : (before : List ℕ) (classes : List Class) (slots : List Slot)
-    → overwritten before (recordsBytes (planOf classes slots)) ≡ recordsBytes (map classRecord classes) ++ back before classes slots
-in-front before classes slots =
-    ap (λ (b : List ℕ). b ++ drop (length (recordsBytes (planOf classes slots))) before) (records-append (map classRecord classes) (map slotRecord slots))
-    ∙ append-assoc (recordsBytes (map classRecord classes)) (recordsBytes (map slotRecord slots)) _
-
--- "Two answers allowed by a promise" of planning agree so
-pub plans-agree : {order before : List ℕ} {r r′ : Planned} {after after′ : List ℕ} → Plans order before r after → Plans order before r′ after′
-    → Agree before r r′ after after′
-plans-agree {before = before} (Plans.no-room s) (Plans.no-room s′) = both-kept before (refusal 1 0) (refusal 1 0) refl
-plans-agree (Plans.no-room s) (Plans.refuses w b q) = absurd (omega arith)
-plans-agree (Plans.no-room s) (Plans.plans w o g p C c x v) = absurd (omega arith)
-plans-agree (Plans.refuses w a q) (Plans.no-room s) = absurd (omega arith)
-plans-agree {before = before} (Plans.refuses w a q) (Plans.refuses w′ b q′) = both-kept before a b (refuses-one q q′)
-plans-agree (Plans.refuses w a q) (Plans.plans w′ o g p C c x v) = absurd (refused-not-accepted q g)
-plans-agree (Plans.plans w o g p C c x v) (Plans.no-room s) = absurd (omega arith)
-plans-agree (Plans.plans w o g p C c x v) (Plans.refuses w′ b q) = absurd (refused-not-accepted q g)
-plans-agree {before = before} (Plans.plans w o g p C c x v) (Plans.plans w′ o′ g′ p′ C′ c′ x′ v′) =
-    let same-o = one-order g′ g in
-    let c″ : Classes (settingOf o) (fansPresent o) p′ C′ = subst (λ (o : Order). Classes (settingOf o) (fansPresent o) p′ C′) same-o c′ in
-    let front : classesOf o′ p′ C′ ≡ classesOf o p C = ap (λ (o : Order). classesOf o p′ C′) same-o ∙ sym (classes-alike o p p′ C C′ c c″) in
-    record {
-      answer = refl;
-      classes = count-unique (settingOf o) (fansPresent o) p p′ C C′ c c″;
-      front = classesOf o p C;
-      counted = length-singles p (classAt o p C);
-      rest = back before (classesOf o p C) (slotsOf o p C x);
-      rest′ = back before (classesOf o′ p′ C′) (slotsOf o′ p′ C′ x′);
-      behind = in-front before (classesOf o p C) (slotsOf o p C x);
-      behind′ = in-front before (classesOf o′ p′ C′) (slotsOf o′ p′ C′ x′)
-          ∙ ap (λ (l : List Class). recordsBytes (map classRecord l) ++ back before (classesOf o′ p′ C′) (slotsOf o′ p′ C′ x′)) front;
-      kept = λ n. absurd (n refl);
-    }

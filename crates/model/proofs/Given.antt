@@ -12,7 +12,7 @@ use lib.Ieee.Bits.{is-false, is-true}
 use lib.ListN.{length, getD, length-append, List·getD-append}
 use lib.Seq.{getD-append-seam}
 use Rattle.model.specs.Records.{pick, Reading, read, refused, andThen, fansParts, doseParts, blankAt, recordAt, readAll}
-use Rattle.model.specs.Orders.{Dose, Order, noDose, Entry, fansEntry, doseEntry, fansOf, doseOf, fansFit, doseFits, checked, entryOf, fansIn, dosesIn, apart, clash, clashesAny, noClash, orderIn, restOf, orderOf, readOrder}
+use Rattle.model.specs.Orders.{Dose, noDose, Entry, fansEntry, doseEntry, fansOf, doseOf, fansFit, doseFits, checked, entryOf, fansIn, dosesIn, apart, clash, clashesAny, noClash, orderIn, restOf, orderOf, readOrder}
 use Rattle.model.proofs.Sums.{last}
 use Rattle.model.proofs.Fractions.{compare≤}
 use Rattle.model.proofs.Readings.{First, Listed, Says, refusal-says, says-pick, says-then, walk-read, walk-refused, walk-says}
@@ -272,14 +272,6 @@ module _ (rest : ℕ) where
         | inr q ↦ absurd (s .2 i q o)
       ]
 
--- an order asks for no rest: two of its doses overlap if they are of one bay and each window opens before the other ends
-pub no-rest : (o : Order) (x y : Dose) → Overlap (restOf o) x y ↔ ((x .bay ≡ y .bay) × (x .release < y .deadline) × (y .release < x .deadline))
-unfolding restOf
-no-rest o x y = (
-  λ h. (h .bay, omega (arith, h .opens), omega (arith, h .closes)),
-  λ h. record { bay = h .0; opens = omega (arith, h .1); closes = omega (arith, h .2) },
-)
-
 -- ---- all rows
 
 module _ (order : List ℕ) where
@@ -375,13 +367,3 @@ row-number (wrong-record n i r (range f)) = (omega arith, omega arith)
 row-number (not-one-fans es g h) = (omega arith, omega arith)
 row-number (many-doses es g one h) = (omega arith, omega arith)
 row-number (overlapping es g one few i o none) = (omega arith, omega arith)
-
--- "else 0"
-pub row-place : {order : List ℕ} {number place : ℕ} → Given order number place → number ≢ 3 → number ≢ 4 → number ≢ 5 → number ≢ 8 → place ≡ 0
-row-place (wrong-length w) a b c d = refl
-row-place (wrong-record n i r (kind k)) a b c d = absurd (a refl)
-row-place (wrong-record n i r (blank k)) a b c d = absurd (b refl)
-row-place (wrong-record n i r (range k)) a b c d = absurd (c refl)
-row-place (not-one-fans es g h) a b c d = refl
-row-place (many-doses es g one h) a b c d = refl
-row-place (overlapping es g one few i o none) a b c d = absurd (d refl)

@@ -1,5 +1,5 @@
--- The instants of an order: strictly sorted, exactly the releases and deadlines, and the only such list. Assumes nothing.
-use mathlib.Core.Path.{_≡_, refl, sym, ap₂}
+-- The instants of an order: strictly sorted, exactly the releases and deadlines. Assumes nothing.
+use mathlib.Core.Path.{_≡_, refl, sym}
 use mathlib.Core.Logic.{_⊎_, inl, inr}
 use mathlib.Core.List.{List, [], _∷_}
 use Prim.Native.Nat.{ℕ, zero, suc, _+_, _*_, _≤_, _<_}
@@ -22,7 +22,7 @@ pub data Member (v : ℕ) : List ℕ → Type 0 where
   there : {x : ℕ} {l : List ℕ} → Member v l → Member v (x ∷ l)
 
 -- what holds of all holds of a member
-of-member : (P : ℕ → Type 0) {l : List ℕ} → All P l → (v : ℕ) → Member v l → P v
+pub of-member : (P : ℕ → Type 0) {l : List ℕ} → All P l → (v : ℕ) → Member v l → P v
 of-member P (also p a) v (here e) = rw e p
 of-member P (also p a) v (there m) = of-member P a v m
 
@@ -164,34 +164,10 @@ member-at [] i h = absurd (omega arith)
 member-at (x ∷ l) zero h = here refl
 member-at (x ∷ l) (suc i) h = there (member-at l i (le-of-suc-le-suc h))
 
--- nothing is below its own head or a member of nothing
-nobody : (v : ℕ) → Member v [] → ⊥
-nobody v m = let r = place-of v m in omega (arith, r .1)
-
-head-least : (v x : ℕ) (l : List ℕ) → All (λ y. x < y) l → Member v (x ∷ l) → x ≤ v
+-- the head of a strictly sorted list is least
+pub head-least : (v x : ℕ) (l : List ℕ) → All (λ y. x < y) l → Member v (x ∷ l) → x ≤ v
 head-least v x l a (here e) = omega arith
 head-least v x l a (there m) = omega (arith, of-member (λ y. x < y) a v m)
-
-not-head : (v x : ℕ) (l : List ℕ) → x < v → Member v (x ∷ l) → Member v l
-not-head v x l h (here e) = absurd (omega arith)
-not-head v x l h (there m) = m
-
--- two strictly sorted lists with the same members are one
-pub sorted-unique : (a b : List ℕ) → Rising a → Rising b → ((v : ℕ) → Member v a → Member v b) → ((v : ℕ) → Member v b → Member v a) → a ≡ b
-sorted-unique [] [] r s f g = refl
-sorted-unique [] (y ∷ b) r s f g = absurd (nobody y (g y (here refl)))
-sorted-unique (x ∷ a) [] r s f g = absurd (nobody x (f x (here refl)))
-sorted-unique (x ∷ a) (y ∷ b) (then p r) (then q s) f g =
-    let same : x ≡ y = omega (arith, head-least y x a p (g y (here refl)), head-least x y b q (f x (here refl))) in
-    let up : (v : ℕ) → Member v a → Member v b = λ v m. not-head v y b (omega (arith, of-member (λ z. x < z) p v m)) (f v (there m)) in
-    let down : (v : ℕ) → Member v b → Member v a = λ v m. not-head v x a (omega (arith, of-member (λ z. y < z) q v m)) (g v (there m)) in
-    ap₂ (λ (z : ℕ) (l : List ℕ). z ∷ l) same (sorted-unique a b r s up down)
-
--- the instants are the one strictly sorted list of the releases and deadlines
-pub instants-unique : (ds : List Dose) (l : List ℕ) → Rising l → ((v : ℕ) → Bound v ds → Member v l) → ((v : ℕ) → Member v l → Bound v ds)
-    → l ≡ instants ds
-instants-unique ds l r has only =
-    sorted-unique l (instants ds) r (instants-sorted ds) (λ v m. instants-have ds v (only v m)) (λ v m. has v (instants-only ds v m))
 
 -- ---- intervals
 

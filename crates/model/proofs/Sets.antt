@@ -1,13 +1,12 @@
 -- Unions, parts and differences of sets of doses, and the laws of their weights.
 use mathlib.Core.Bool.{Bool, _&&_, _||_, false, not, true}
-use mathlib.Core.Logic.{inl, inr}
 use mathlib.Core.Path.{_∙_, _≡_, ap, refl, sym}
-use Prim.Native.Nat.{_*_, _+_, _<_, _^_, _≤_, suc, zero, ℕ}
-use native.Mathlib.Nat.{le-antisymm, two-pow-succ}
+use Prim.Native.Nat.{_*_, _+_, _<_, _≤_, suc, zero, ℕ}
+use native.Mathlib.Nat.{le-antisymm}
 use native.Mathlib.Omega.{arith}
 use lib.Dec.{T}
 use Rattle.model.specs.Sets.{Doses, Nonempty, Sub, on, sum, weight}
-use Rattle.model.proofs.Sums.{last, le-sum, sum-add, sum-congr, sum-le, sum-lt, sum-pos, sum-scale, sum-swap, sum-tight, sum-zero}
+use Rattle.model.proofs.Sums.{le-sum, sum-add, sum-congr, sum-le, sum-lt, sum-pos, sum-scale, sum-swap, sum-tight, sum-zero}
 
 infixl 35 _∩_ _∖_
 infixl 30 _∪_
@@ -280,26 +279,3 @@ pub size-all : (n : ℕ) → size n (λ k. true) ≡ n
 unfolding weight sum
 size-all zero = refl
 size-all (suc n) = omega (arith, size-all n)
-
--- ---- the number of a set, with bit k for dose k
-
--- n bits are below 2 ^ n
-pub bits-below : (n : ℕ) (A : Doses) → weight n (λ k. 2 ^ k) A < 2 ^ n
-unfolding weight sum
-bits-below zero A = omega arith
-bits-below (suc n) A = omega (arith, bits-below n A, on-below (A n) (2 ^ n), two-pow-succ n)
-
--- sets of one number are one set: the last bit weighs more than all before it
-pub bits-one : (n : ℕ) (A B : Doses) → weight n (λ k. 2 ^ k) A ≡ weight n (λ k. 2 ^ k) B → Alike n A B
-unfolding weight sum
-bits-one zero A B e k l = absurd (omega arith)
-bits-one (suc n) A B e k l =
-    let r = last-bit (A n) (B n) (weight n (λ k. 2 ^ k) A) (weight n (λ k. 2 ^ k) B) (bits-below n A) (bits-below n B) e in
-    let ih = bits-one n A B (r .1) k in
-    elim (last l) [ inl z ↦ rw z (r .0) | inr m ↦ ih m ]
-  where
-    last-bit : (x y : Bool) (a b : ℕ) → a < 2 ^ n → b < 2 ^ n → a + on x (2 ^ n) ≡ b + on y (2 ^ n) → (x ≡ y) × (a ≡ b)
-    last-bit true true a b p q f = (refl, omega arith)
-    last-bit true false a b p q f = absurd (omega arith)
-    last-bit false true a b p q f = absurd (omega arith)
-    last-bit false false a b p q f = (refl, omega arith)

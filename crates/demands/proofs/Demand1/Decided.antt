@@ -24,7 +24,7 @@ use Rattle.model.proofs.Plans.{slots-planned}
 use Rattle.model.proofs.Orders.{Fit, no-refusal}
 use Rattle.demands.proofs.Existence.{classes-of}
 use Rattle.model.proofs.Standing.{same-member, same-rate}
-use Rattle.model.proofs.Answers.{classes-alike}
+use Rattle.demands.proofs.Demand1.Agreeing.{classes-alike}
 
 -- ---- questions made of questions
 

@@ -4,15 +4,38 @@ use mathlib.Core.Path.{_≡_, _∙_, ap, refl, sym}
 use mathlib.Core.List.{List}
 use Prim.Native.Nat.{ℕ, _≤_, _<_}
 use lib.ListN.{length}
+use native.Mathlib.Omega.{arith}
 use Rattle.model.specs.Records.{read}
-use Rattle.model.specs.Orders.{Order, readOrder}
+use Rattle.model.specs.Orders.{Order, readOrder, Dose, restOf}
 use Rattle.model.specs.Intervals.{settingOf}
 use Rattle.model.specs.Stands.{Stands}
 use Rattle.model.specs.Answers.{Accepts, Answer, Drawn, Draws, Judges, Planned, Plans, Refuses, above, planRoom, refusal, tooFast, unread, week}
-use Rattle.model.proofs.Given.{Given, given-exactly, row-place}
+use Rattle.model.proofs.Given.{Given, given-exactly, Overlap, blank, kind, many-doses, not-one-fans, overlapping, range, wrong-length, wrong-record}
 use Rattle.demands.proofs.Demand2.Refusing.{TooFast}
-use Rattle.model.proofs.Answers.{OfOrder, order-accepted, order-refused, draws-one, judges-one, plans-agree}
+use Rattle.demands.proofs.Demand1.ByOrder.{OfOrder, order-accepted, order-refused}
+use Rattle.model.proofs.Answers.{draws-one, judges-one}
+use Rattle.demands.proofs.Demand1.Agreeing.{plans-agree}
 use Rattle.demands.proofs.Demand1.EveryCall.{accepted-planned}
+
+-- ---- rows 2 to 8
+
+-- their place is "else 0"
+row-place : {order : List ℕ} {number place : ℕ} → Given order number place → number ≢ 3 → number ≢ 4 → number ≢ 5 → number ≢ 8 → place ≡ 0
+row-place (wrong-length w) a b c d = refl
+row-place (wrong-record n i r (kind k)) a b c d = absurd (a refl)
+row-place (wrong-record n i r (blank k)) a b c d = absurd (b refl)
+row-place (wrong-record n i r (range k)) a b c d = absurd (c refl)
+row-place (not-one-fans es g h) a b c d = refl
+row-place (many-doses es g one h) a b c d = refl
+row-place (overlapping es g one few i o none) a b c d = absurd (d refl)
+
+-- an order asks for no rest: two of its doses overlap if they are of one bay and each window opens before the other ends
+pub no-rest : (o : Order) (x y : Dose) → Overlap (restOf o) x y ↔ ((x .bay ≡ y .bay) × (x .release < y .deadline) × (y .release < x .deadline))
+unfolding restOf
+no-rest o x y = (
+  λ h. (h .bay, omega (arith, h .opens), omega (arith, h .closes)),
+  λ h. record { bay = h .0; opens = omega (arith, h .1); closes = omega (arith, h .2) },
+)
 
 -- ---- the rows
 

@@ -1,24 +1,53 @@
 -- Demand 2's refusal over the answers themselves: for every order that passes 2 to 8, and every answer that planning, judging, drawing and the pen
 -- may give, "the top rate" is the refusal exactly if no plan exists, and the number, W and P that come back show it.
-use mathlib.Core.Bool.{true}
-use mathlib.Core.Logic.{_↔_}
+use mathlib.Core.Bool.{true, Bool, false}
+use mathlib.Core.Logic.{_↔_, inl, inr}
 use mathlib.Core.Path.{_≡_, _∙_, ap, refl, sym}
 use mathlib.Core.List.{List}
-use Prim.Native.Nat.{ℕ, _*_, _<_, _≤_}
+use Prim.Native.Nat.{ℕ, _*_, _<_, _≤_, zero, suc, _+_, _^_}
 use lib.ListN.{length}
-use Rattle.model.specs.Sets.{Doses}
+use native.Mathlib.Nat.{two-pow-succ}
+use native.Mathlib.Omega.{arith}
+use Rattle.model.specs.Sets.{Doses, on, sum, weight}
 use Rattle.model.specs.Records.{read}
 use Rattle.model.specs.Orders.{Order, readOrder}
 use Rattle.model.specs.Classes.{P, W, setNumber}
 use Rattle.model.specs.Intervals.{fansPresent, settingOf}
 use Rattle.model.specs.FreePlans.{FreePlan}
 use Rattle.model.specs.Answers.{Answer, Drawn, Draws, FirstClass, Judges, Moves, Pen, Planned, Plans, planRoom}
-use Rattle.model.proofs.Sets.{Alike, bits-one, weight-alike}
+use Rattle.model.proofs.Sets.{Alike, weight-alike, on-below}
 use Rattle.model.proofs.FanTime.{P-alike}
 use Rattle.model.proofs.NextClass.{next-transport}
 use Rattle.demands.proofs.Demand2.Refusing.{refused-names}
-use Rattle.model.proofs.Answers.{OfOrder, drawn-order, judged-order, order-accepted, order-refused, pen-draws, planned-order, refused-not-accepted}
+use Rattle.demands.proofs.Demand1.ByOrder.{OfOrder, drawn-order, judged-order, order-accepted, order-refused, planned-order}
+use Rattle.model.proofs.Answers.{pen-draws, refused-not-accepted}
 use Rattle.demands.proofs.Demand2.{names-the-set, refused-exactly, the-set-shows-it}
+use Rattle.model.proofs.Sums.{last}
+
+-- ---- the number of a set, with bit k for dose k
+
+-- n bits are below 2 ^ n
+bits-below : (n : ℕ) (A : Doses) → weight n (λ k. 2 ^ k) A < 2 ^ n
+unfolding weight sum
+bits-below zero A = omega arith
+bits-below (suc n) A = omega (arith, bits-below n A, on-below (A n) (2 ^ n), two-pow-succ n)
+
+-- sets of one number are one set: the last bit weighs more than all before it
+bits-one : (n : ℕ) (A B : Doses) → weight n (λ k. 2 ^ k) A ≡ weight n (λ k. 2 ^ k) B → Alike n A B
+unfolding weight sum
+bits-one zero A B e k l = absurd (omega arith)
+bits-one (suc n) A B e k l =
+    let r = last-bit (A n) (B n) (weight n (λ k. 2 ^ k) A) (weight n (λ k. 2 ^ k) B) (bits-below n A) (bits-below n B) e in
+    let ih = bits-one n A B (r .1) k in
+    elim (last l) [ inl z ↦ rw z (r .0) | inr m ↦ ih m ]
+  where
+    last-bit : (x y : Bool) (a b : ℕ) → a < 2 ^ n → b < 2 ^ n → a + on x (2 ^ n) ≡ b + on y (2 ^ n) → (x ≡ y) × (a ≡ b)
+    last-bit true true a b p q f = (refl, omega arith)
+    last-bit true false a b p q f = absurd (omega arith)
+    last-bit false true a b p q f = absurd (omega arith)
+    last-bit false false a b p q f = (refl, omega arith)
+
+-- ---- answers
 
 -- the set B is the first class, with the W and P of the answer, and these are above the top rate
 pub record Shows (o : Order) (a : Answer) (B : Doses) : Type 0 where
