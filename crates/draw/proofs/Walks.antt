@@ -15,7 +15,7 @@ use Rattle.model.specs.Plans.{Slot, PlanRecord, classRecord, slotRecord, classO
 use Rattle.model.specs.Stands.{starts, ends}
 use Rattle.model.specs.Line.{State, dosing, idle, unitsBefore, timeOf, fedAt}
 use Rattle.model.proofs.Orders.{no-refusal, passed, went-on}
-use Rattle.field.proofs.Records.{partAt, record-part}
+use Rattle.records.proofs.Records.{partAt, record-part}
 use Rattle.draw.specs.Drawing.{ownSlot, unitsIn, feedsAt, Drawable}
 
 module _ {A : Type 0} (step : Slot → A → A) (end : A) where

@@ -2,7 +2,7 @@
 mod numbers; // numbers.rt: the class of each dose, as the slots name it
 mod top; // top.rt: refusal 9
 
-use clauses::records;
+use clauses::rows;
 use order::Order;
 ghost use Prim.Native.Nat.{_/_, _≤_};
 ghost use lib.ListN.{length};
@@ -38,10 +38,10 @@ fn rows_pass(plan: &[u8], p: usize, numbers: &[u32; 24], doses: usize) -> bool
     if doses < p {
         return false;
     }
-    if !records::class_rows(plan, p) {
+    if !rows::class_rows(plan, p) {
         return false;
     }
-    if !records::slot_rows(plan, p) {
+    if !rows::slot_rows(plan, p) {
         return false;
     }
     if !numbers::numbered(numbers, doses, p) {
@@ -120,7 +120,7 @@ fn find(
     requires { ⌜ (doses ≤ 24) × (intervals ≤ 47) ⌝ }
     ensures { λ r. ⌜ Finds (sheet doses intervals fans (now (release .entry)) (now (deadline .entry)) (now (grams .entry)) (now (instants .entry))) (now (plan .entry)) (r .classes) (r .numbers) (r .stands) ⌝ }
 {
-    let p = records::lead(plan);
+    let p = rows::lead(plan);
     let numbers = numbers::numbers_of(plan, p);
     let stands = all_pass(
         plan,

@@ -1,5 +1,5 @@
 // The class number of each dose, as the plan's own slots name it.
-use clauses::records::slot_at;
+use clauses::rows::slot_at;
 use steps::index;
 ghost use mathlib.Core.Path.{_≡_};
 ghost use mathlib.Core.Logic.{_≢_};

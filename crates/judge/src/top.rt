@@ -1,6 +1,6 @@
 // Refusal 9: "first class: W × top seconds above P × top grams".
 use crate::Judged;
-use clauses::records::class_at;
+use clauses::rows::class_at;
 use order::Order;
 use steps::on;
 use steps::product;

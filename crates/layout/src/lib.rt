@@ -1,6 +1,6 @@
 // Slots laid by wrap-around into a lent buffer (document 01, "From classes to slots").
-use plan_records::Slot;
-use plan_records::put_slot;
+use records::Slot;
+use records::put_slot;
 use steps::of_byte;
 ghost use mathlib.Core.Path.{_≡_};
 ghost use mathlib.Core.List.{map};
@@ -10,7 +10,7 @@ ghost use lib.ListN.{length, getD};
 ghost use Rattle.model.specs.Sets.{on};
 ghost use Rattle.model.specs.Plans.{slotRecord};
 ghost use Rattle.model.specs.Layout.{cut, pieceSlot, laneSlots, intervalSlots, tableSlots};
-ghost use Rattle.plan_records.specs.Held.{asSlot};
+ghost use Rattle.records.specs.Held.{asSlot};
 ghost use Rattle.layout.specs.Held.{asLane, shareAt, laneAt, tableFrom};
 ghost use Rattle.layout.specs.Laying.{Wrote, Ready, Room, Rooms, Filled};
 

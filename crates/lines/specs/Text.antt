@@ -4,7 +4,7 @@ use mathlib.Core.List.{List, [], _∷_, _++_}
 use Prim.Native.Nat.{ℕ, zero, suc, _+_, _*_, _-_, _/_, _%_}
 use lib.Dec.{eqb, ltb}
 use lib.ListN.{length, getD}
-use Rattle.field.specs.Written.{written}
+use Rattle.records.specs.Written.{written}
 use Rattle.model.specs.Lists.{gather}
 use Rattle.model.specs.Records.{pick, recordAt}
 use Rattle.model.specs.Plans.{Class, Slot, PlanRecord, classRecord, slotRecord, classOf, slotOf}

@@ -48,20 +48,20 @@ fn fans_blank(r: &[u8]) -> bool
     requires { ⌜ length (now r) ≡ 32 ⌝ }
     ensures { λ t. ⌜ t ≡ blankAt fansParts (now (r .entry)) 0 ⌝ }
 {
-    if !field::blank(r, 2, 2) {
+    if !records::blank(r, 2, 2) {
         return false;
     }
-    field::blank(r, 12, 20)
+    records::blank(r, 12, 20)
 }
 
 fn dose_blank(r: &[u8]) -> bool
     requires { ⌜ length (now r) ≡ 32 ⌝ }
     ensures { λ t. ⌜ t ≡ blankAt doseParts (now (r .entry)) 0 ⌝ }
 {
-    if !field::blank(r, 1, 1) {
+    if !records::blank(r, 1, 1) {
         return false;
     }
-    field::blank(r, 16, 16)
+    records::blank(r, 16, 16)
 }
 
 fn fans_in(r: &[u8]) -> Fans
@@ -69,9 +69,9 @@ fn fans_in(r: &[u8]) -> Fans
     ensures { λ f. ⌜ f ≡ heldFans (fansOf (now (r .entry))) ⌝ }
 {
     Fans {
-        fans: field::read8(r, 1),
-        top_grams: field::read32(r, 4),
-        top_seconds: field::read32(r, 8),
+        fans: records::read8(r, 1),
+        top_grams: records::read32(r, 4),
+        top_seconds: records::read32(r, 8),
     }
 }
 
@@ -80,10 +80,10 @@ fn dose_in(r: &[u8]) -> Dose
     ensures { λ d. ⌜ d ≡ heldDose (doseOf (now (r .entry))) ⌝ }
 {
     Dose {
-        bay: field::read16(r, 2),
-        release: field::read32(r, 4),
-        deadline: field::read32(r, 8),
-        grams: field::read32(r, 12),
+        bay: records::read16(r, 2),
+        release: records::read32(r, 4),
+        deadline: records::read32(r, 8),
+        grams: records::read32(r, 12),
     }
 }
 

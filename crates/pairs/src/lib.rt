@@ -1,12 +1,12 @@
 // Two slots: "slots by interval, fan, start"; "no two slots of one fan overlap; no two slots of one dose overlap".
-use clauses::records::slot_at;
-use plan_records::Slot;
+use clauses::rows::slot_at;
+use records::Slot;
 use slots::place_of;
 use steps::product;
 ghost use Prim.Native.Nat.{ℕ, _+_, _/_, _<_, _≤_};
 ghost use lib.ListN.{length};
 ghost use Rattle.model.specs.Stands.{EndsBy};
-ghost use Rattle.plan_records.specs.Held.{asSlot};
+ghost use Rattle.records.specs.Held.{asSlot};
 ghost use Rattle.clauses.specs.Tests.{Tells, SlotLong, InTurn, Ready, Apart, ApartAfter, slotIn};
 
 // s ends at or before the moment at which u starts: ticks first, then products of parts, which fit 64 bits.

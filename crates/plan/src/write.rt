@@ -1,6 +1,6 @@
 // The records of a plan in the lent buffer: "classes by number, then slots by interval, fan, start".
 use layout::Tables;
-use plan_records::Class;
+use records::Class;
 ghost use mathlib.Core.Path.{_≡_};
 ghost use Prim.Native.Nat.{_+_, _*_, _<_, _≤_};
 ghost use lib.ListN.{length};
@@ -8,7 +8,7 @@ ghost use Rattle.model.specs.Sets.{on, weight};
 ghost use Rattle.model.specs.Plans.{classRecord};
 ghost use Rattle.model.specs.Layout.{tableSlots};
 ghost use Rattle.model.specs.Answers.{overwritten};
-ghost use Rattle.plan_records.specs.Held.{asClass};
+ghost use Rattle.records.specs.Held.{asClass};
 ghost use Rattle.layout.specs.Held.{tableFrom};
 ghost use Rattle.layout.specs.Laying.{Filled, Wrote};
 ghost use Rattle.plan.specs.Held.{membersFrom, classFrom, classesFrom, bytesFrom};
@@ -54,7 +54,7 @@ fn put_classes(b: &mut [u8], t: Tables) -> usize
 {
     let mut i = 0;
     while i < t.classes {
-        plan_records::put_class(b, 32 * i, class_at(t, i));
+        records::put_class(b, 32 * i, class_at(t, i));
         i += 1;
     }
     i

@@ -1,6 +1,6 @@
 // W and P of the sets that the slots name, by the rule (document 01, "From doses to classes"), against the C records.
-use clauses::records::class_at;
-use plan_records::Class;
+use clauses::rows::class_at;
+use records::Class;
 use steps::both;
 use steps::index;
 use steps::less;
@@ -15,7 +15,7 @@ ghost use lib.Dec.{leb};
 ghost use lib.ListN.{length, getD};
 ghost use Rattle.model.specs.Sets.{sum, weight};
 ghost use Rattle.model.specs.Sets as sets;
-ghost use Rattle.plan_records.specs.Held.{asClass};
+ghost use Rattle.records.specs.Held.{asClass};
 ghost use Rattle.clauses.specs.Tests.{Tells, ClassFits, Falls, setsOf, classIn, sheet, Says, Opens};
 
 // How many doses class i has.

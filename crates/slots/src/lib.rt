@@ -1,16 +1,16 @@
 // The clauses of one slot (document 01, "A plan stands").
-use clauses::records::class_at;
-use clauses::records::slot_at;
-use plan_records::Class;
-use plan_records::Slot;
-use plan_records::moment;
+use clauses::rows::class_at;
+use clauses::rows::slot_at;
+use records::Class;
+use records::Slot;
+use records::moment;
 use steps::index;
 ghost use mathlib.Core.Path.{_≡_};
 ghost use Prim.Native.Nat.{ℕ, _/_, _<_, _≤_};
 ghost use lib.ListN.{length, getD};
 ghost use Rattle.model.specs.Stands as stands;
 ghost use Rattle.model.specs.Stands.{Between};
-ghost use Rattle.plan_records.specs.Held.{asClass, asSlot};
+ghost use Rattle.records.specs.Held.{asClass, asSlot};
 ghost use Rattle.clauses.specs.Tests.{Tells, SlotNames, SlotLong, SlotFits, InPlace, placeOf, slotIn, sheet};
 
 pub fn starts(s: Slot) -> u64

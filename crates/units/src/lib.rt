@@ -1,6 +1,6 @@
 // "each dose's slots total w × P units".
-use clauses::records::class_at;
-use clauses::records::slot_at;
+use clauses::rows::class_at;
+use clauses::rows::slot_at;
 use slots::ends;
 use slots::starts;
 use steps::index;

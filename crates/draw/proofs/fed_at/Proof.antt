@@ -1,5 +1,5 @@
 -- `fed_at` meets its contract: no record passed feeds the dose at the tick, so the records left give the state that all give (Walks).
-use Rattle.field.proofs.Records.{part-length}
+use Rattle.records.proofs.Records.{part-length}
 use Rattle.draw.proofs.Walks.{fedLeft, fed-found, fed-again, fed-end}
 use Rattle.model.specs.Line.{dosing}
 use Rattle.draw.specs.Drawing.{asState}

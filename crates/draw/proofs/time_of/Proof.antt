@@ -1,5 +1,5 @@
 -- `time_of` meets its contract: no record passed is a slot of the dose, so the records left give the P that all give (Walks).
-use Rattle.field.proofs.Records.{part-length}
+use Rattle.records.proofs.Records.{part-length}
 use Rattle.draw.proofs.Walks.{timeLeft, time-found, time-again, time-end}
 use Prim.Native.Nat.{_+_, _-_, _/_, _≤_}
 use mathlib.Core.Path.{_≡_, refl, sym, _∙_}

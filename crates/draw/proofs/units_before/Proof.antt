@@ -1,5 +1,5 @@
 -- `units_before` meets its contract: the sum so far and the units of the records left make the units of all (Walks).
-use Rattle.field.proofs.Records.{part-length}
+use Rattle.records.proofs.Records.{part-length}
 use Rattle.draw.proofs.Walks.{unitsLeft, units-fit, units-again, units-end}
 use Prim.Native.Nat.{_+_, _-_, _/_, _≤_}
 use mathlib.Core.Path.{_≡_, refl}

@@ -5,7 +5,7 @@ use Prim.Native.Nat.{ℕ, _+_, _-_, _/_, _<_, _≤_}
 use lib.ListN.{getD, length}
 use Rattle.model.specs.Plans as plans
 use Rattle.model.proofs.Fractions.{compare≤}
-use Rattle.plan_records.specs.Held.{asSlot}
+use Rattle.records.specs.Held.{asSlot}
 use Rattle.clauses.specs.Tests.{ApartAfter, placeIn, slotIn}
 use Rattle.steps.proofs.Loops.{at-end}
 use Rattle.clauses.proofs.Tell.{tells-not, tells-off, tells-on, tells-was}

@@ -1,7 +1,7 @@
 -- `against_top` meets its contract: the plan's first record has W and P of the first class (OfOrder).
 use Prim.Native.Nat.{_<_}
 use Rattle.model.specs.Answers.{done}
-use Rattle.plan_records.specs.Held.{asClass}
+use Rattle.records.specs.Held.{asClass}
 use Rattle.judge.specs.Verdict.{slow}
 use Rattle.order.proofs.Fields.{few-doses}
 use Rattle.judge.proofs.OfOrder.{leader-fast, leader-slow}

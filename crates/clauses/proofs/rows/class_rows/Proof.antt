@@ -1,0 +1,74 @@
+-- `class_rows` meets its contract: every record passed has a C's kind and zeros.
+use Prim.Native.Nat.{ℕ, _-_, _<_, _≤_}
+use borrow.Author.Count.{below-more}
+use Rattle.model.specs.Records.{recordAt}
+use Rattle.clauses.specs.Tests.{ClassRow}
+use Rattle.records.proofs.Records.{record-part, part-length}
+use Rattle.clauses.proofs.Tell.{tells-not, tells-off, tells-on, tells-was}
+use borrow.Author.Needs.{needs}
+use native.Mathlib.Omega.{arith}
+use Rattle.clauses.proofs.rows.class_rows.Statement.{statement}
+use Rattle.clauses.proofs.rows.class_rows.Tie as tie
+
+abbrev Inv-loop : tie.InvT-loop
+Inv-loop plan p i₀ i = (i ≤ p) × ((k : ℕ) → k < i → ClassRow (recordAt plan k))
+
+abbrev μ-loop : tie.MeasureT-loop
+μ-loop plan p i₀ i = p - i
+
+loop-holds : tie.Need-loop-holds Inv-loop μ-loop
+loop-holds c = (omega arith, λ k l. absurd (omega arith))
+
+mul-a : tie.Need-mul-a Inv-loop μ-loop
+mul-a c = omega arith
+
+add-e : tie.Need-add-e Inv-loop μ-loop
+add-e c = omega arith
+
+sub-is-class : tie.Need-sub-is-class Inv-loop μ-loop
+sub-is-class c = omega arith
+
+part-is-class-start : tie.Need-part-is-class-start Inv-loop μ-loop
+part-is-class-start c = search needs
+
+part-is-class-end : tie.Need-part-is-class-end Inv-loop μ-loop
+part-is-class-end c = search needs
+
+is-class-requires : tie.Need-is-class-requires Inv-loop μ-loop
+is-class-requires c κs = part-length (c .before .before .before .before .args .plan .now) (c .before .before .loop .i) (omega arith)
+
+returns : tie.Need-returns Inv-loop μ-loop
+returns c = tells-off (λ h. tells-not (c .before .is-class .ensures) (c .if1 .taken) (rw (record-part (c .before .before .before .before .before .before .args .plan .now) (c .before .before .before .before .loop .i)) (h (c .before .before .before .before .loop .i) (omega arith))))
+
+add-i : tie.Need-add-i Inv-loop μ-loop
+add-i c = omega arith
+
+loop-less : tie.Need-loop-less Inv-loop μ-loop
+loop-less c = omega arith
+
+loop-again : tie.Need-loop-again Inv-loop μ-loop
+loop-again c = (omega arith, below-more _ _ (c .before .before .before .before .loop .inv .1) (rw (record-part (c .before .before .before .before .before .before .args .plan .now) (c .before .before .before .before .loop .i)) at (tells-was (c .before .is-class .ensures) (c .if1 .left))))
+
+returns-2 : tie.Need-returns-2 Inv-loop μ-loop
+returns-2 c =
+    let L = c .before .loop in
+    tells-on (λ k l. L .inv .1 k (omega arith))
+
+pub class-rows-spec : {M : Type 1} → statement M
+class-rows-spec =
+    tie.close
+    (tie.spec
+    Inv-loop
+    μ-loop
+    loop-holds
+    mul-a
+    add-e
+    sub-is-class
+    part-is-class-start
+    part-is-class-end
+    is-class-requires
+    returns
+    add-i
+    loop-less
+    loop-again
+    returns-2)
