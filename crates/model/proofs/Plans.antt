@@ -9,7 +9,7 @@ use borrow.Author.Tests.{eq-eqb, eqb-true}
 use lib.Dec.{eqb}
 use lib.ListN.{drop, drop-of-length-le, getD, length, length-append, length-drop, length-map, length-take, take, take-append-drop}
 use lib.Seq.{drop-at, drop-drop, take-all, take-at}
-use Rattle.model.specs.Records.{Reading, andThen, blankAt, classParts, fieldsAt, numberAt, pick, read, readAll, readFrom, recordAt, recordBytes, refused, slotParts}
+use Rattle.model.specs.Records.{Reading, andThen, blankAt, classKind, classParts, fieldsAt, numberAt, pick, read, readAll, readFrom, recordAt, recordBytes, refused, slotKind, slotParts}
 use Rattle.model.specs.Lists.{All, also, none}
 use Rattle.model.specs.Plans.{Class, PlanRecord, Slot, classOf, classRecord, planOf, planRecordBytes, planRecordOf, planRecords, recordsBytes, slotOf, slotRecord, slotsIn, slotsRead}
 use Rattle.model.proofs.Lists.{All-append, All-map}
@@ -48,13 +48,13 @@ classFields kind c = kind ∷ c .number ∷ c .doses ∷ c .grams ∷ c .time �
 abbrev slotFields : ℕ → Slot → List ℕ
 slotFields kind s = kind ∷ s .fan ∷ s .dose ∷ s .startTick ∷ s .startPart ∷ s .endTick ∷ s .endPart ∷ s .grams ∷ s .time ∷ s .class ∷ []
 
-class-fits : (c : Class) → NarrowClass c → Fits classParts (classFields 0x43 c)
+class-fits : (c : Class) → NarrowClass c → Fits classParts (classFields classKind c)
 class-fits c h =
-    in-field {width = 1} {v = 0x43} (omega arith) (in-field (h .number) (in-field (h .doses) (in-field (h .grams) (in-field (h .time) (past-blank no-part)))))
+    in-field {width = 1} {v = classKind} (omega arith) (in-field (h .number) (in-field (h .doses) (in-field (h .grams) (in-field (h .time) (past-blank no-part)))))
 
-slot-fits : (s : Slot) → NarrowSlot s → Fits slotParts (slotFields 0x53 s)
+slot-fits : (s : Slot) → NarrowSlot s → Fits slotParts (slotFields slotKind s)
 slot-fits s h =
-    in-field {width = 1} {v = 0x53} (omega arith) (in-field (h .fan) (in-field (h .dose) (in-field (h .startTick) (in-field (h .startPart) (in-field (h .endTick)
+    in-field {width = 1} {v = slotKind} (omega arith) (in-field (h .fan) (in-field (h .dose) (in-field (h .startTick) (in-field (h .startPart) (in-field (h .endTick)
     (in-field (h .endPart) (in-field (h .grams) (in-field (h .time) (in-field (h .class) (past-blank no-part))))))))))
 
 -- ---- one record
@@ -62,8 +62,8 @@ slot-fits s h =
 -- a record is 32 bytes
 pub length-one : (r : PlanRecord) → length (planRecordBytes r) ≡ 32
 unfolding planRecordBytes sizeOf
-length-one (classRecord c) = length-record classParts (classFields 0x43 c)
-length-one (slotRecord s) = length-record slotParts (slotFields 0x53 s)
+length-one (classRecord c) = length-record classParts (classFields classKind c)
+length-one (slotRecord s) = length-record slotParts (slotFields slotKind s)
 
 -- the kind is the first field
 kind-class : (b : List ℕ) → getD (fieldsAt classParts b 0) 0 0 ≡ getD b 0 0
@@ -74,11 +74,11 @@ kind-slot : (b : List ℕ) → getD (fieldsAt slotParts b 0) 0 0 ≡ getD b 0 0
 unfolding fieldsAt numberAt
 kind-slot b = omega arith
 
-reads-class : (b : List ℕ) (c : Class) (i : ℕ) → fieldsAt classParts b 0 ≡ classFields 0x43 c → blankAt classParts b 0 ≡ true → planRecordOf b i ≡ read (classRecord c)
+reads-class : (b : List ℕ) (c : Class) (i : ℕ) → fieldsAt classParts b 0 ≡ classFields classKind c → blankAt classParts b 0 ≡ true → planRecordOf b i ≡ read (classRecord c)
 unfolding planRecordOf
 reads-class b c i e z = rw (sym (kind-class b) ∙ ap (λ (l : List ℕ). getD l 0 0) e, z, e)
 
-reads-slot : (b : List ℕ) (s : Slot) (i : ℕ) → fieldsAt slotParts b 0 ≡ slotFields 0x53 s → blankAt slotParts b 0 ≡ true → planRecordOf b i ≡ read (slotRecord s)
+reads-slot : (b : List ℕ) (s : Slot) (i : ℕ) → fieldsAt slotParts b 0 ≡ slotFields slotKind s → blankAt slotParts b 0 ≡ true → planRecordOf b i ≡ read (slotRecord s)
 unfolding planRecordOf
 reads-slot b s i e z = rw (sym (kind-slot b) ∙ ap (λ (l : List ℕ). getD l 0 0) e, z, e)
 
@@ -87,43 +87,43 @@ pub one-back : (r : PlanRecord) → Narrow r → (i : ℕ) → planRecordOf (pla
 unfolding planRecordBytes
 one-back (classRecord c) h i =
     let f = class-fits c h in
-    reads-class (recordBytes classParts (classFields 0x43 c)) c i (rw append-nil at (fields-back f [])) (rw append-nil at (blank-back f []))
+    reads-class (recordBytes classParts (classFields classKind c)) c i (rw append-nil at (fields-back f [])) (rw append-nil at (blank-back f []))
 one-back (slotRecord s) h i =
     let f = slot-fits s h in
-    reads-slot (recordBytes slotParts (slotFields 0x53 s)) s i (rw append-nil at (fields-back f [])) (rw append-nil at (blank-back f []))
+    reads-slot (recordBytes slotParts (slotFields slotKind s)) s i (rw append-nil at (fields-back f [])) (rw append-nil at (blank-back f []))
 
 refused-read : {A : Type 0} {n place : ℕ} {a : A} → refused n place ≡ read a → ⊥
 refused-read e = let z : _≡_ {A = ℕ} 0 1 = cc in omega arith
 
 module _ (b : List ℕ) (h : Bytes b) (size : length b ≡ 32) where
-  fields-class : getD b 0 0 ≡ 0x43 → classFields 0x43 (classOf b) ≡ fieldsAt classParts b 0
+  fields-class : getD b 0 0 ≡ classKind → classFields classKind (classOf b) ≡ fieldsAt classParts b 0
   unfolding fieldsAt
   fields-class k = ap (λ (kind : ℕ). classFields kind (classOf b)) (sym (kind-class b ∙ k))
 
-  fields-slot : getD b 0 0 ≡ 0x53 → slotFields 0x53 (slotOf b) ≡ fieldsAt slotParts b 0
+  fields-slot : getD b 0 0 ≡ slotKind → slotFields slotKind (slotOf b) ≡ fieldsAt slotParts b 0
   unfolding fieldsAt
   fields-slot k = ap (λ (kind : ℕ). slotFields kind (slotOf b)) (sym (kind-slot b ∙ k))
 
-  class-taken : getD b 0 0 ≡ 0x43 → blankAt classParts b 0 ≡ true → planRecordBytes (classRecord (classOf b)) ≡ b
+  class-taken : getD b 0 0 ≡ classKind → blankAt classParts b 0 ≡ true → planRecordBytes (classRecord (classOf b)) ≡ b
   unfolding planRecordBytes sizeOf
   class-taken k z = ap (recordBytes classParts) (fields-class k) ∙ fields-taken classParts b h 0 z (omega arith) ∙ take-all 32 b (omega arith)
 
-  slot-taken : getD b 0 0 ≡ 0x53 → blankAt slotParts b 0 ≡ true → planRecordBytes (slotRecord (slotOf b)) ≡ b
+  slot-taken : getD b 0 0 ≡ slotKind → blankAt slotParts b 0 ≡ true → planRecordBytes (slotRecord (slotOf b)) ≡ b
   unfolding planRecordBytes sizeOf
   slot-taken k z = ap (recordBytes slotParts) (fields-slot k) ∙ fields-taken slotParts b h 0 z (omega arith) ∙ take-all 32 b (omega arith)
 
   -- what is read is written again
   pub one-taken : (i : ℕ) (r : PlanRecord) → planRecordOf b i ≡ read r → planRecordBytes r ≡ b
   unfolding planRecordOf
-  one-taken i r = go (eqb (getD b 0 0) 0x43) (eqb (getD b 0 0) 0x53) (blankAt classParts b 0) (blankAt slotParts b 0) refl refl refl refl
+  one-taken i r = go (eqb (getD b 0 0) classKind) (eqb (getD b 0 0) slotKind) (blankAt classParts b 0) (blankAt slotParts b 0) refl refl refl refl
     where
-      go : (class slot classBlank slotBlank : Bool) → eqb (getD b 0 0) 0x43 ≡ class → eqb (getD b 0 0) 0x53 ≡ slot → blankAt classParts b 0 ≡ classBlank
+      go : (class slot classBlank slotBlank : Bool) → eqb (getD b 0 0) classKind ≡ class → eqb (getD b 0 0) slotKind ≡ slot → blankAt classParts b 0 ≡ classBlank
           → blankAt slotParts b 0 ≡ slotBlank
           → pick class (pick classBlank (read (classRecord (classOf b))) (refused 10 0)) (pick slot (pick slotBlank (read (slotRecord (slotOf b))) (refused 10 0)) (refused 10 0)) ≡ read r
           → planRecordBytes r ≡ b
-      go true s true d k l y z e = let q : r ≡ classRecord (classOf b) = cc in rw q (class-taken (eqb-true (getD b 0 0) 0x43 k) y)
+      go true s true d k l y z e = let q : r ≡ classRecord (classOf b) = cc in rw q (class-taken (eqb-true (getD b 0 0) classKind k) y)
       go true s false d k l y z e = absurd (refused-read e)
-      go false true c true k l y z e = let q : r ≡ slotRecord (slotOf b) = cc in rw q (slot-taken (eqb-true (getD b 0 0) 0x53 l) z)
+      go false true c true k l y z e = let q : r ≡ slotRecord (slotOf b) = cc in rw q (slot-taken (eqb-true (getD b 0 0) slotKind l) z)
       go false true c false k l y z e = absurd (refused-read e)
       go false false c d k l y z e = absurd (refused-read e)
 
