@@ -57,9 +57,9 @@ fn moment_at(r: &[u8], at: usize) -> u64
     requires { ⌜ (length (now r) ≡ 32) × (at ≤ 16) ⌝ }
     ensures { λ m. ⌜ m ≡ numberAt (now (r .entry)) at 4 * numberAt (now (r .entry)) 20 4 + numberAt (now (r .entry)) (at + 4) 4 ⌝ }
 {
-    let tick = records::read32(r, at);
-    let part = records::read32(r, at + 4);
-    moment(tick, part, records::read32(r, 20))
+    let tick = records::number::read32(r, at);
+    let part = records::number::read32(r, at + 4);
+    moment(tick, part, records::number::read32(r, 20))
 }
 
 fn slot_start(r: &[u8]) -> u64
@@ -81,7 +81,7 @@ fn units_to(r: &[u8], tick: u32) -> u64
     requires { ⌜ length (now r) ≡ 32 ⌝ }
     ensures { λ m. ⌜ m ≡ tick * slotOf (now (r .entry)) .grams ⌝ }
 {
-    product(tick, records::read32(r, 20))
+    product(tick, records::number::read32(r, 20))
 }
 
 // The units from a slot's start to its end that lie before a moment.
@@ -109,7 +109,7 @@ fn own_slot(r: &[u8], dose: usize) -> bool
     if kind != 0x53 {
         return false;
     }
-    let d = records::read16(r, 2) as usize;
+    let d = records::number::read16(r, 2) as usize;
     dose == d
 }
 
@@ -173,7 +173,7 @@ fn time_of(plan: &[u8], dose: usize) -> u32
         let a = 32 * k;
         let e = a + 32;
         if own_slot(&plan[a..e], dose) {
-            return records::read32(&plan[a..e], 24);
+            return records::number::read32(&plan[a..e], 24);
         }
         k += 1;
     }
@@ -191,7 +191,7 @@ fn fed_at(plan: &[u8], dose: usize, tick: u32) -> State
         let a = 32 * k;
         let e = a + 32;
         if feeds(&plan[a..e], dose, tick) {
-            return State::Dosing(records::read8(&plan[a..e], 1));
+            return State::Dosing(records::number::read8(&plan[a..e], 1));
         }
         k += 1;
     }

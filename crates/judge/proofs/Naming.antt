@@ -13,7 +13,8 @@ use Rattle.steps.proofs.Tests.{alike}
 use Rattle.steps.proofs.Arrays.{filled-one}
 use Rattle.records.specs.declared.plan_records.Slot.{Slot}
 use Rattle.records.specs.Held.{asSlot}
-use Rattle.clauses.specs.Tests.{Numbers, numberOf, slotIn}
+use Rattle.records.specs.Plan.{slotIn}
+use Rattle.clauses.specs.Tests.{Numbers, numberOf}
 
 -- ---- the number of one dose
 

@@ -11,7 +11,8 @@ use Rattle.model.specs.Classes.{W, P}
 use Rattle.model.specs.Intervals.{settingOf, fansPresent}
 use Rattle.model.specs.Stands.{Stands}
 use Rattle.model.specs.Answers.{Answer, FirstClass, aboveTop, done, refusal, tooFast}
-use Rattle.clauses.specs.Tests.{Tells, classIn, setsOf}
+use Rattle.records.specs.Plan.{classIn}
+use Rattle.clauses.specs.Tests.{Tells, setsOf}
 use Rattle.judge.specs.declared.Judged.{Judged}
 use Rattle.judge.specs.declared.Judged.the-variants as is
 

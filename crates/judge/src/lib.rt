@@ -4,8 +4,10 @@ mod top; // top.rt: refusal 9
 
 use clauses::rows;
 use order::Order;
+use records::RECORD_SIZE;
 ghost use Prim.Native.Nat.{_/_, _≤_};
 ghost use lib.ListN.{length};
+ghost use Rattle.model.specs.Records.{recordSize};
 ghost use Rattle.model.proofs.Orders.{Fit};
 ghost use Rattle.model.specs.Answers.{Judges};
 ghost use Rattle.order.specs.Held.{asOrder};
@@ -29,10 +31,10 @@ pub enum Judged {
 
 // What the records say by themselves and of the sets that the slots name.
 fn rows_pass(plan: &[u8], p: usize, numbers: &[u32; 24], doses: usize) -> bool
-    requires { ⌜ (p ≤ length (now plan) / 32) × (doses ≤ 24) ⌝ }
+    requires { ⌜ (p ≤ length (now plan) / recordSize) × (doses ≤ 24) ⌝ }
     ensures { λ t. ⌜ Tells t (RowsPass doses (now (plan .entry)) p (now (numbers .entry))) ⌝ }
 {
-    if plan.len() % 32 != 0 {
+    if plan.len() % RECORD_SIZE != 0 {
         return false;
     }
     if doses < p {
@@ -63,7 +65,7 @@ fn all_pass(
     intervals: usize,
     fans: u32,
 ) -> bool
-    requires { ⌜ (p ≤ length (now plan) / 32) × (doses ≤ 24) × (intervals ≤ 47) ⌝ }
+    requires { ⌜ (p ≤ length (now plan) / recordSize) × (doses ≤ 24) × (intervals ≤ 47) ⌝ }
     ensures { λ t. ⌜ Tells t (Passes (sheet doses intervals fans (now (release .entry)) (now (deadline .entry)) (now (grams .entry)) (now (instants .entry))) (now (plan .entry)) p (now (numbers .entry))) ⌝ }
 {
     if !rows_pass(plan, p, numbers, doses) {

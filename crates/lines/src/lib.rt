@@ -75,21 +75,21 @@ fn one_byte(bytes: &[u8], at: usize) -> u64
     requires { ⌜ at + 1 ≤ length (now bytes) ⌝ }
     ensures { λ r. ⌜ r ≡ numberAt (now (bytes .entry)) at 1 ⌝ }
 {
-    records::read8(bytes, at) as u64
+    records::number::read8(bytes, at) as u64
 }
 
 fn two_bytes(bytes: &[u8], at: usize) -> u64
     requires { ⌜ at + 2 ≤ length (now bytes) ⌝ }
     ensures { λ r. ⌜ r ≡ numberAt (now (bytes .entry)) at 2 ⌝ }
 {
-    records::read16(bytes, at) as u64
+    records::number::read16(bytes, at) as u64
 }
 
 fn four_bytes(bytes: &[u8], at: usize) -> u64
     requires { ⌜ at + 4 ≤ length (now bytes) ⌝ }
     ensures { λ r. ⌜ r ≡ numberAt (now (bytes .entry)) at 4 ⌝ }
 {
-    records::read32(bytes, at) as u64
+    records::number::read32(bytes, at) as u64
 }
 
 // "`class` number, doses, W, P"

@@ -13,12 +13,13 @@ use Rattle.model.specs.Records.{pick, Reading, read, refused, andThen}
 use Rattle.model.specs.Orders.{fansEntry, doseEntry, noDose, fansIn, dosesIn, noClash, clashesAny, orderOf, orderWith, readOrder}
 use Rattle.model.specs.Orders as orders
 use Rattle.order.specs.declared.Order.{Order}
-use Rattle.order.specs.declared.Fans.{Fans}
-use Rattle.order.specs.declared.Dose.{Dose}
+use Rattle.records.specs.declared.order_records.Fans.{Fans}
+use Rattle.records.specs.declared.order_records.Dose.{Dose}
 use Rattle.order.specs.declared.Sheet.{Sheet}
 use Rattle.order.specs.declared.Walked.{Walked}
 use Rattle.order.specs.declared.Reading as code
-use Rattle.order.specs.Held.{asDose, heldFans, heldDose, doseHeld, dosesFrom, dosesHeld, asOrder, column, heldOrder, noOrder, heldReading, asReading, ReadFrom}
+use Rattle.records.specs.Held.{asDose, heldFans, heldDose}
+use Rattle.order.specs.Held.{doseHeld, dosesFrom, dosesHeld, asOrder, column, heldOrder, noOrder, heldReading, asReading, ReadFrom}
 use Rattle.order.specs.Sheets.{noSheet, withDose, withFans, withDoseAt, marked, adding, walkedFrom, settled, refusedReading}
 use Rattle.order.proofs.Columns.{column-set, column-at, run-all}
 use Rattle.order.proofs.Cases.{picked, at-off, at-on}

@@ -1,7 +1,9 @@
--- A struct that holds a record of a plan is settled by the record: `asClass` and `asSlot` are one-to-one. Assumes nothing.
+-- A struct that holds a record is settled by the record: `asFans`, `asDose`, `asClass` and `asSlot` are one-to-one. Assumes nothing.
 use mathlib.Core.Path.{_≡_, ap}
 use Rattle.model.specs.Plans as plans
-use Rattle.records.specs.Held.{asClass, asSlot}
+use Rattle.records.specs.Held.{asFans, heldFans, asDose, heldDose, asClass, asSlot}
+use Rattle.records.specs.declared.order_records.Fans.{Fans}
+use Rattle.records.specs.declared.order_records.Dose.{Dose}
 use Rattle.records.specs.declared.plan_records.Class.{Class}
 use Rattle.records.specs.declared.plan_records.Slot.{Slot}
 
@@ -20,6 +22,12 @@ heldSlot s = record {
   time = s .time;
   class = s .class;
 }
+
+pub fans-one : (f g : Fans) → asFans f ≡ asFans g → f ≡ g
+fans-one f g e = ap heldFans e
+
+pub dose-one : (d e : Dose) → asDose d ≡ asDose e → d ≡ e
+dose-one d e q = ap heldDose q
 
 pub class-one : (c d : Class) → asClass c ≡ asClass d → c ≡ d
 class-one c d e = ap heldClass e

@@ -1,6 +1,7 @@
 // Numbers and zeros in the bytes of a record (document 01, "Records": "numbers least significant byte first").
 use steps::of_byte;
 ghost use mathlib.Core.Path.{_≡_};
+ghost use mathlib.Core.List.{_++_};
 ghost use Prim.Native.Nat.{_+_, _<_, _≤_};
 ghost use lib.Dec.{eqb};
 ghost use lib.ListN.{length, replicate};
@@ -76,6 +77,15 @@ pub fn put32(b: &mut [u8], at: usize, v: u32)
     b[at + 1] = (v / 256 % 256) as u8;
     b[at + 2] = (v / 256 / 256 % 256) as u8;
     b[at + 3] = (v / 256 / 256 / 256 % 256) as u8;
+}
+
+// Writes two numbers of four bytes each, one behind the other; no other byte changes.
+pub fn put_pair(b: &mut [u8], at: usize, first: u32, second: u32)
+    requires { ⌜ at + 8 ≤ length (now b) ⌝ }
+    ensures { λ _. ⌜ now (b .exit) ≡ written (now (b .entry)) at (numberBytes 4 first ++ numberBytes 4 second) ⌝ }
+{
+    put32(b, at, first);
+    put32(b, at + 4, second);
 }
 
 // Writes `count` zeros from a place on; no other byte changes.

@@ -5,7 +5,8 @@ use native.Mathlib.Omega.{arith}
 use native.Mathlib.Nat.{sub-zero}
 use borrow.Author.Needs.{needs}
 use Rattle.model.specs.Orders.{clashesAny}
-use Rattle.order.specs.Held.{asDose, dosesFrom, dosesHeld}
+use Rattle.records.specs.Held.{asDose}
+use Rattle.order.specs.Held.{dosesFrom, dosesHeld}
 use Rattle.order.proofs.Laws.{clash-none, clash-stop, clash-on}
 use Rattle.order.proofs.clashes.Statement.{statement}
 use Rattle.order.proofs.clashes.Tie as tie

@@ -3,9 +3,7 @@ use Prim.Native.Nat.{ℕ, _-_, _<_, _≤_}
 use borrow.Author.Count.{below-more}
 use Rattle.model.specs.Records.{recordAt}
 use Rattle.clauses.specs.Tests.{ClassRow}
-use Rattle.records.proofs.Records.{record-part, part-length}
-use Rattle.clauses.proofs.Tell.{tells-not, tells-off, tells-on, tells-was}
-use borrow.Author.Needs.{needs}
+use Rattle.clauses.proofs.Tell.{tells-class, tells-not, tells-off, tells-on, tells-was}
 use native.Mathlib.Omega.{arith}
 use Rattle.clauses.proofs.rows.class_rows.Statement.{statement}
 use Rattle.clauses.proofs.rows.class_rows.Tie as tie
@@ -19,26 +17,13 @@ abbrev μ-loop : tie.MeasureT-loop
 loop-holds : tie.Need-loop-holds Inv-loop μ-loop
 loop-holds c = (omega arith, λ k l. absurd (omega arith))
 
-mul-a : tie.Need-mul-a Inv-loop μ-loop
-mul-a c = omega arith
-
-add-e : tie.Need-add-e Inv-loop μ-loop
-add-e c = omega arith
-
-sub-is-class : tie.Need-sub-is-class Inv-loop μ-loop
-sub-is-class c = omega arith
-
-part-is-class-start : tie.Need-part-is-class-start Inv-loop μ-loop
-part-is-class-start c = search needs
-
-part-is-class-end : tie.Need-part-is-class-end Inv-loop μ-loop
-part-is-class-end c = search needs
-
 is-class-requires : tie.Need-is-class-requires Inv-loop μ-loop
-is-class-requires c κs = part-length (c .before .before .before .before .args .plan .now) (c .before .before .loop .i) (omega arith)
+is-class-requires c κs = omega arith
 
 returns : tie.Need-returns Inv-loop μ-loop
-returns c = tells-off (λ h. tells-not (c .before .is-class .ensures) (c .if1 .taken) (rw (record-part (c .before .before .before .before .before .before .args .plan .now) (c .before .before .before .before .loop .i)) (h (c .before .before .before .before .loop .i) (omega arith))))
+returns c =
+    let L = c .before .before .before .loop in
+    tells-off (λ h. tells-not (tells-class _ _ (c .before .is-class .ensures)) (c .if1 .taken) (h (L .i) (omega arith)))
 
 add-i : tie.Need-add-i Inv-loop μ-loop
 add-i c = omega arith
@@ -47,7 +32,9 @@ loop-less : tie.Need-loop-less Inv-loop μ-loop
 loop-less c = omega arith
 
 loop-again : tie.Need-loop-again Inv-loop μ-loop
-loop-again c = (omega arith, below-more _ _ (c .before .before .before .before .loop .inv .1) (rw (record-part (c .before .before .before .before .before .before .args .plan .now) (c .before .before .before .before .loop .i)) at (tells-was (c .before .is-class .ensures) (c .if1 .left))))
+loop-again c =
+    let L = c .before .before .before .loop in
+    (omega arith, below-more _ _ (L .inv .1) (tells-was (tells-class _ _ (c .before .is-class .ensures)) (c .if1 .left)))
 
 returns-2 : tie.Need-returns-2 Inv-loop μ-loop
 returns-2 c =
@@ -61,11 +48,6 @@ class-rows-spec =
     Inv-loop
     μ-loop
     loop-holds
-    mul-a
-    add-e
-    sub-is-class
-    part-is-class-start
-    part-is-class-end
     is-class-requires
     returns
     add-i

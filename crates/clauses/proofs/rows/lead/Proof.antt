@@ -1,31 +1,34 @@
 -- `lead` meets its contract: every record passed is a C.
-use mathlib.Core.Path.{_≡_, refl, sym, _∙_}
+use mathlib.Core.Path.{_≡_, sym, _∙_}
 use Prim.Native.Nat.{ℕ, _-_, _/_, _<_, _≤_}
 use lib.ListN.{length}
 use borrow.Author.Count.{below-more}
-use Rattle.clauses.specs.Tests.{kindAt}
-use Rattle.clauses.proofs.Tell.{kind-at}
+use Rattle.model.specs.Records.{classKind}
+use Rattle.records.specs.Plan.{kindAt}
+use borrow.Author.Needs.{needs}
 use native.Mathlib.Omega.{arith}
 use Rattle.clauses.proofs.rows.lead.Statement.{statement}
 use Rattle.clauses.proofs.rows.lead.Tie as tie
 
 abbrev Inv-loop : tie.InvT-loop
-Inv-loop plan m i₀ i = (m ≡ length plan / 32) × (i ≤ m) × ((k : ℕ) → k < i → kindAt plan k ≡ 0x43)
+Inv-loop plan m i₀ i = (m ≡ length plan / 32) × (i ≤ m) × ((k : ℕ) → k < i → kindAt plan k ≡ classKind)
 
 abbrev μ-loop : tie.MeasureT-loop
 μ-loop plan m i₀ i = m - i
 
+record-count-requires : tie.Need-record-count-requires Inv-loop μ-loop
+record-count-requires c κs = search needs
+
 loop-holds : tie.Need-loop-holds Inv-loop μ-loop
-loop-holds c = (refl, omega arith, λ k l. absurd (omega arith))
+loop-holds c = (c .record-count .ensures, omega arith, λ k l. absurd (omega arith))
 
-mul-if1 : tie.Need-mul-if1 Inv-loop μ-loop
-mul-if1 c = omega arith
-
-shared-slice-read-if1 : tie.Need-shared-slice-read-if1 Inv-loop μ-loop
-shared-slice-read-if1 c = omega arith
+kind-at-requires : tie.Need-kind-at-requires Inv-loop μ-loop
+kind-at-requires c κs = omega arith
 
 returns : tie.Need-returns Inv-loop μ-loop
-returns c = record { short = omega arith; classes = c .before .before .before .loop .inv .2; stops = λ l e. c .if1 .taken (sym (kind-at (c .before .before .before .before .args .plan .now) (c .before .before .before .loop .i)) ∙ e) }
+returns c =
+    let L = c .before .before .before .loop in
+    record { short = omega arith; classes = L .inv .2; stops = λ l e. c .if1 .taken (c .before .kind-at .ensures ∙ e) }
 
 add-i : tie.Need-add-i Inv-loop μ-loop
 add-i c = omega arith
@@ -34,7 +37,9 @@ loop-less : tie.Need-loop-less Inv-loop μ-loop
 loop-less c = omega arith
 
 loop-again : tie.Need-loop-again Inv-loop μ-loop
-loop-again c = (refl, omega arith, below-more _ _ (c .before .before .before .loop .inv .2) (kind-at (c .before .before .before .before .args .plan .now) (c .before .before .before .loop .i) ∙ c .if1 .left))
+loop-again c =
+    let L = c .before .before .before .loop in
+    (L .inv .0, omega arith, below-more _ _ (L .inv .2) (sym (c .before .kind-at .ensures) ∙ c .if1 .left))
 
 returns-2 : tie.Need-returns-2 Inv-loop μ-loop
 returns-2 c =
@@ -47,9 +52,9 @@ lead-spec =
     (tie.spec
     Inv-loop
     μ-loop
+    record-count-requires
     loop-holds
-    mul-if1
-    shared-slice-read-if1
+    kind-at-requires
     returns
     add-i
     loop-less

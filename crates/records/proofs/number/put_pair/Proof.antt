@@ -3,8 +3,8 @@ use mathlib.Core.Path.{refl}
 use Rattle.records.proofs.Laws.{join}
 use Rattle.model.specs.Records.{numberBytes}
 use borrow.Author.Needs.{needs}
-use Rattle.records.proofs.plan_records.put_pair.Statement.{statement}
-use Rattle.records.proofs.plan_records.put_pair.Tie as tie
+use Rattle.records.proofs.number.put_pair.Statement.{statement}
+use Rattle.records.proofs.number.put_pair.Tie as tie
 
 put32-requires : tie.Need-put32-requires
 put32-requires c κs = search needs

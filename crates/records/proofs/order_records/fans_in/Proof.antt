@@ -1,8 +1,8 @@
 -- `fans_in` meets its contract: the fields of an F record, each read at its place.
 use Rattle.model.specs.Records.{fieldsAt}
 use borrow.Author.Needs.{needs}
-use Rattle.order.proofs.record.fans_in.Statement.{statement}
-use Rattle.order.proofs.record.fans_in.Tie as tie
+use Rattle.records.proofs.order_records.fans_in.Statement.{statement}
+use Rattle.records.proofs.order_records.fans_in.Tie as tie
 
 read8-requires : tie.Need-read8-requires
 read8-requires c κs = search needs

@@ -1,8 +1,8 @@
 -- `dose_in` meets its contract: the fields of a D record, each read at its place.
 use Rattle.model.specs.Records.{fieldsAt}
 use borrow.Author.Needs.{needs}
-use Rattle.order.proofs.record.dose_in.Statement.{statement}
-use Rattle.order.proofs.record.dose_in.Tie as tie
+use Rattle.records.proofs.order_records.dose_in.Statement.{statement}
+use Rattle.records.proofs.order_records.dose_in.Tie as tie
 
 read16-requires : tie.Need-read16-requires
 read16-requires c κs = search needs
