@@ -267,7 +267,7 @@ fn show_next() -> bool {
     if n < 1632 {
         return false;
     }
-    let len = field::read32(&frame, 0) as usize;
+    let len = records::number::read32(&frame, 0) as usize;
     if 1600 < len {
         return false;
     }

@@ -1,15 +1,14 @@
 -- From the tests that the code made to what they tell. Assumes nothing.
-use mathlib.Core.Path.{_≡_, _∙_, ap, refl, sym}
+use mathlib.Core.Path.{_≡_, _∙_, refl, sym}
 use mathlib.Core.Bool.{Bool, true, false, not, _&&_}
 use mathlib.Core.List.{List}
-use Prim.Native.Nat.{ℕ, _*_, _<_, _≤_}
+use Prim.Native.Nat.{ℕ, _<_, _≤_}
 use native.Mathlib.Omega.{arith}
 use borrow.Author.Tests.{eqb-true, eqb-false, leb-true, leb-false, ltb-true, ltb-false, not-true, not-false}
 use lib.Dec.{eqb, leb, ltb}
-use lib.ListN.{drop, getD}
-use lib.Seq.{getD-drop, getD-take}
-use Rattle.model.specs.Records.{blankAt, classParts, numberAt, slotParts}
-use Rattle.clauses.specs.Tests.{ClassRow, SlotRow, Tells, kindAt}
+use Rattle.model.specs.Records.{recordAt}
+use Rattle.records.specs.Plan.{isClass, isSlot}
+use Rattle.clauses.specs.Tests.{ClassRow, SlotRow, Tells}
 
 module _ {P : Type 0} where
   pub tells-on : P → Tells true P
@@ -51,30 +50,21 @@ module _ {P : Type 0} where
 
 -- ---- records
 
-and-true : (b : Bool) → (b && true) ≡ b
-and-true true = refl
-and-true false = refl
+-- two tests as one: a number, and a Bool
+tells-both : {P : Type 0} (k m : ℕ) (b : Bool) {t : Bool} → t ≡ eqb k m && b → (k ≡ m → b ≡ true → P) → (P → (k ≡ m) × (b ≡ true)) → Tells t P
+tells-both {P} k m b e f g = rw e (go (eqb k m) b refl refl)
+  where
+    go : (x y : Bool) → eqb k m ≡ x → b ≡ y → Tells (x && y) P
+    go true true p q = tells-on (f (eqb-true k m p) q)
+    go true false p q = tells-off (λ h. let z : true ≡ false = sym (g h .1) ∙ q in let w : _≡_ {A = ℕ} 0 1 = cc in omega arith)
+    go false y p q = tells-off (λ h. eqb-false k m p (g h .0))
 
-class-blank : (r : List ℕ) → blankAt classParts r 0 ≡ eqb (numberAt r 12 20) 0
-unfolding blankAt
-class-blank r = and-true (eqb (numberAt r 12 20) 0)
+-- record i is a C with its zeros
+pub tells-class : (plan : List ℕ) (i : ℕ) {t : Bool} → t ≡ isClass plan i → Tells t (ClassRow (recordAt plan i))
+unfolding isClass
+tells-class plan i e = tells-both _ _ _ e (λ k b. record { kind = k; blank = b }) (λ h. (h .kind, h .blank))
 
-slot-blank : (r : List ℕ) → blankAt slotParts r 0 ≡ eqb (numberAt r 29 3) 0
-unfolding blankAt
-slot-blank r = and-true (eqb (numberAt r 29 3) 0)
-
-pub tells-class : (r : List ℕ) (t : Bool) → getD r 0 0 ≡ 0x43 → t ≡ eqb (numberAt r 12 20) 0 → Tells t (ClassRow r)
-tells-class r t k e = record {
-  yes = λ y. record { kind = k; blank = class-blank r ∙ sym e ∙ y };
-  no = λ n h. let z : false ≡ true = sym n ∙ e ∙ sym (class-blank r) ∙ h .blank in let w : _≡_ {A = ℕ} 0 1 = cc in omega arith;
-}
-
-pub tells-slot : (r : List ℕ) (t : Bool) → getD r 0 0 ≡ 0x53 → t ≡ eqb (numberAt r 29 3) 0 → Tells t (SlotRow r)
-tells-slot r t k e = record {
-  yes = λ y. record { kind = k; blank = slot-blank r ∙ sym e ∙ y };
-  no = λ n h. let z : false ≡ true = sym n ∙ e ∙ sym (slot-blank r) ∙ h .blank in let w : _≡_ {A = ℕ} 0 1 = cc in omega arith;
-}
-
--- the kind of record i
-pub kind-at : (b : List ℕ) (i : ℕ) → kindAt b i ≡ getD b (32 * i) 0
-kind-at b i = getD-take 32 (drop (32 * i) b) 0 0 (omega arith) ∙ getD-drop (32 * i) b 0 0 ∙ ap (λ (x : ℕ). getD b x 0) (omega arith)
+-- or an S with its zeros
+pub tells-slot : (plan : List ℕ) (i : ℕ) {t : Bool} → t ≡ isSlot plan i → Tells t (SlotRow (recordAt plan i))
+unfolding isSlot
+tells-slot plan i e = tells-both _ _ _ e (λ k b. record { kind = k; blank = b }) (λ h. (h .kind, h .blank))

@@ -7,12 +7,13 @@ use Prim.Native.Nat.{ℕ, zero, suc, _+_, _-_, _*_, _/_, _%_, _<_, _≤_, min}
 use lib.Dec.{eqb, leb, ltb}
 use lib.ListN.{length, getD}
 use Rattle.model.specs.Sets.{Doses, on, sum, weight}
-use Rattle.model.specs.Records.{pick, blankAt, classParts, slotParts, recordAt}
+use Rattle.model.specs.Records.{pick, recordSize, classKind, slotKind, blankAt, classParts, slotParts, recordAt}
 use Rattle.model.specs.Orders.{Order, doseAt}
 use Rattle.model.specs.Intervals.{instantAt, intervalCount}
 use Rattle.model.specs.Classes.{Setting, Row, W, classP}
-use Rattle.model.specs.Plans.{Class, Slot, classOf, slotOf}
+use Rattle.model.specs.Plans.{Class, Slot}
 use Rattle.model.specs.Stands.{Between, EndsBy, NoOverlap, starts, ends, unitsOf}
+use Rattle.records.specs.Plan.{classIn, slotIn, kindAt}
 
 -- r says whether P holds
 pub record Tells (r : Bool) (P : Type 0) : Type 0 where
@@ -73,29 +74,19 @@ placeOf instants intervals t = scan instants t 0 intervals
 
 -- ---- records
 
--- record i read as a C, and as an S
-unfoldable pub classIn : List ℕ → ℕ → Class
-classIn plan i = classOf (recordAt plan i)
-
-unfoldable pub slotIn : List ℕ → ℕ → Slot
-slotIn plan i = slotOf (recordAt plan i)
-
-abbrev pub kindAt : List ℕ → ℕ → ℕ
-kindAt plan i = getD (recordAt plan i) 0 0
-
 pub record ClassRow (r : List ℕ) : Type 0 where
-  pub kind : getD r 0 0 ≡ 0x43
+  pub kind : getD r 0 0 ≡ classKind
   pub blank : blankAt classParts r 0 ≡ true
 
 pub record SlotRow (r : List ℕ) : Type 0 where
-  pub kind : getD r 0 0 ≡ 0x53
+  pub kind : getD r 0 0 ≡ slotKind
   pub blank : blankAt slotParts r 0 ≡ true
 
 -- p C records stand in front, and no more
 pub record Leads (plan : List ℕ) (p : ℕ) : Type 0 where
-  pub short : p ≤ length plan / 32
-  pub classes : (i : ℕ) → i < p → kindAt plan i ≡ 0x43
-  pub stops : p < length plan / 32 → kindAt plan p ≡ 0x43 → ⊥
+  pub short : p ≤ length plan / recordSize
+  pub classes : (i : ℕ) → i < p → kindAt plan i ≡ classKind
+  pub stops : p < length plan / recordSize → kindAt plan p ≡ classKind → ⊥
 
 -- the class number that the last slot of dose k names, of n slots from record p on; 0 where none is its own
 unfoldable pub numberOf : List ℕ → ℕ → ℕ → ℕ → ℕ
@@ -173,9 +164,9 @@ pub data InTurn (instants : List ℕ) (intervals : ℕ) (s u : Slot) : Type 0 wh
 
 -- slots that are long, in an interval and in turn
 pub record Ready (instants : List ℕ) (intervals : ℕ) (plan : List ℕ) (p : ℕ) : Type 0 where
-  pub long : (i : ℕ) → i < length plan / 32 → p ≤ i → SlotLong (slotIn plan i)
-  pub place : (i : ℕ) → i < length plan / 32 → p ≤ i → placeIn instants intervals (slotIn plan i) < intervals
-  pub sorted : (i l : ℕ) → p ≤ i → i < l → l < length plan / 32 → placeIn instants intervals (slotIn plan i) ≤ placeIn instants intervals (slotIn plan l)
+  pub long : (i : ℕ) → i < length plan / recordSize → p ≤ i → SlotLong (slotIn plan i)
+  pub place : (i : ℕ) → i < length plan / recordSize → p ≤ i → placeIn instants intervals (slotIn plan i) < intervals
+  pub sorted : (i l : ℕ) → p ≤ i → i < l → l < length plan / recordSize → placeIn instants intervals (slotIn plan i) ≤ placeIn instants intervals (slotIn plan l)
 
 -- "no two slots of one dose overlap"
 pub record Apart (s u : Slot) : Type 0 where
@@ -201,10 +192,10 @@ needIn grams plan numbers k = getD grams k 0 * classIn plan (getD numbers k 0 - 
 
 -- what the records and the slots' class numbers show without the order's windows
 pub record RowsPass (doses : ℕ) (plan : List ℕ) (p : ℕ) (numbers : List ℕ) : Type 0 where
-  pub whole : length plan % 32 ≡ 0
+  pub whole : length plan % recordSize ≡ 0
   pub few : p ≤ doses
   pub class-rows : (i : ℕ) → i < p → ClassRow (recordAt plan i)
-  pub slot-rows : (i : ℕ) → i < length plan / 32 → p ≤ i → SlotRow (recordAt plan i)
+  pub slot-rows : (i : ℕ) → i < length plan / recordSize → p ≤ i → SlotRow (recordAt plan i)
   pub numbered : (k : ℕ) → k < doses → (1 ≤ getD numbers k 0) × (getD numbers k 0 ≤ p)
   pub falls : (i : ℕ) → i + 1 < p → Falls (classIn plan i) (classIn plan (i + 1))
 
@@ -212,13 +203,13 @@ pub record RowsPass (doses : ℕ) (plan : List ℕ) (p : ℕ) (numbers : List �
 pub record Passes (h : Sheet) (plan : List ℕ) (p : ℕ) (numbers : List ℕ) : Type 0 where
   pub rows : RowsPass (h .doses) plan p numbers
   pub classes : (i : ℕ) → i < p → ClassFits h numbers i (classIn plan i)
-  pub slots : (i : ℕ) → i < length plan / 32 → p ≤ i → SlotFits h plan numbers (slotIn plan i)
-  pub turns : (i : ℕ) → i + 1 < length plan / 32 → p ≤ i → InTurn (h .instants) (h .intervals) (slotIn plan i) (slotIn plan (i + 1))
-  pub apart : (i : ℕ) → i < length plan / 32 → p ≤ i → ApartAfter (h .instants) (h .intervals) plan i (length plan / 32)
-  pub totals : (k : ℕ) → k < h .doses → unitsUpTo plan p (length plan / 32) k ≡ needIn (h .grams) plan numbers k
+  pub slots : (i : ℕ) → i < length plan / recordSize → p ≤ i → SlotFits h plan numbers (slotIn plan i)
+  pub turns : (i : ℕ) → i + 1 < length plan / recordSize → p ≤ i → InTurn (h .instants) (h .intervals) (slotIn plan i) (slotIn plan (i + 1))
+  pub apart : (i : ℕ) → i < length plan / recordSize → p ≤ i → ApartAfter (h .instants) (h .intervals) plan i (length plan / recordSize)
+  pub totals : (k : ℕ) → k < h .doses → unitsUpTo plan p (length plan / recordSize) k ≡ needIn (h .grams) plan numbers k
 
 -- what the judge finds of plan bytes: p classes, the class numbers of the doses, and whether the bytes pass
 pub record Finds (h : Sheet) (plan : List ℕ) (p : ℕ) (numbers : List ℕ) (r : Bool) : Type 0 where
   pub leads : Leads plan p
-  pub named : Numbers plan p (length plan / 32) numbers
+  pub named : Numbers plan p (length plan / recordSize) numbers
   pub tells : Tells r (Passes h plan p numbers)

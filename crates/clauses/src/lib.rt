@@ -1,2 +1,2 @@
-// What the clauses of "A plan stands" speak of (document 01): the C and S records of plan bytes. The clauses themselves are in specs/Tests.
-pub mod records; // records.rt: C and S records
+// What the clauses of "A plan stands" say (document 01), in specs/Tests; the first of them, of the records' kinds and zeros, is tested here.
+pub mod rows; // rows.rt: kinds and zeros

@@ -4,16 +4,15 @@ use mathlib.Core.Bool.{Bool, _&&_}
 use mathlib.Core.List.{List}
 use Prim.Native.Nat.{ℕ, _*_, _-_, _≤_, _<_, min}
 use lib.Dec.{eqb, leb, ltb}
-use lib.ListN.{getD}
-use Rattle.model.specs.Sets.{on}
-use Rattle.model.specs.Records.{read}
-use Rattle.model.specs.Plans.{PlanRecord, slotOf, slotsIn, planRecords}
+use Rattle.model.specs.Records.{read, slotKind}
+use Rattle.model.specs.Plans.{PlanRecord, Slot, slotsIn, planRecords}
 use Rattle.model.specs.Stands.{starts, ends, Stands}
 use Rattle.model.specs.Line.{finished, shut, idle, dosing, unitsBefore, timeOf}
 use Rattle.model.specs.Line as line
 use Rattle.model.specs.Orders.{Order}
 use Rattle.model.specs.Answers.{Answer, Accepts}
 use Rattle.model.specs.Answers as answers
+use Rattle.records.specs.Plan.{kindAt, slotIn}
 use Rattle.draw.specs.declared.State.{State}
 use Rattle.draw.specs.declared.State.the-variants as is
 use Rattle.draw.specs.declared.Point.{Point}
@@ -45,19 +44,19 @@ penAt dose tick = record { dose = dose; tick = tick }
 abbrev pub asPen : Pen → answers.Pen
 asPen p = penAt (p .dose) (p .tick)
 
--- ---- one record of 32 bytes
+-- ---- one record
 
--- it is a slot of dose d
-unfoldable pub ownSlot : List ℕ → ℕ → Bool
-ownSlot r d = eqb (getD r 0 0) 0x53 && eqb d (slotOf r .dose)
+-- record k of plan bytes is a slot of dose d
+unfoldable pub ownSlot : List ℕ → ℕ → ℕ → Bool
+ownSlot plan k d = eqb (kindAt plan k) slotKind && eqb d (slotIn plan k .dose)
 
--- its units of dose d before tick t
-unfoldable pub unitsIn : List ℕ → ℕ → ℕ → ℕ
-unitsIn r d t = on (ownSlot r d) (min (ends (slotOf r)) (t * slotOf r .grams) - starts (slotOf r))
+-- the units of a slot before tick t
+unfoldable pub slotUnits : Slot → ℕ → ℕ
+slotUnits s t = min (ends s) (t * s .grams) - starts s
 
--- it covers the instant t for dose d
-unfoldable pub feedsAt : List ℕ → ℕ → ℕ → Bool
-feedsAt r d t = ownSlot r d && leb (starts (slotOf r)) (t * slotOf r .grams) && ltb (t * slotOf r .grams) (ends (slotOf r))
+-- it covers the instant t: "start at or before t, end after"
+unfoldable pub covering : Slot → ℕ → Bool
+covering s t = leb (starts s) (t * s .grams) && ltb (t * s .grams) (ends s)
 
 -- ---- plan bytes
 

@@ -1,20 +1,32 @@
 // A dose's point at a tick (document 01, "The drawn line"), and the pen over it.
-ghost use mathlib.Core.Path.{_≡_};
-ghost use Prim.Native.Nat.{_+_, _*_, _-_, _<_, _≤_, min};
-ghost use lib.ListN.{length};
-ghost use Rattle.model.specs.Records.{numberAt};
-ghost use Rattle.model.specs.Plans.{slotOf, slotsRead, planRecords};
-ghost use Rattle.model.specs.Stands.{starts, ends};
-ghost use Rattle.model.specs.Line.{unitsBefore, timeOf, fedAt, stateAt, pointAt};
-ghost use Rattle.model.specs.Answers.{noPoint, Draws, Moves};
-ghost use Rattle.order.specs.Held.{asOrder};
-ghost use Rattle.judge.specs.Verdict.{asAnswer};
-ghost use Rattle.draw.specs.Drawing.{asState, asPoint, asDrawn, answerOf, asPen, penAt, ownSlot, unitsIn, feedsAt, Drawable, Sound};
 use judge::Judged;
 use order::Order;
-use plan_records::moment;
+use records::SLOT_KIND;
+use records::Slot;
+use records::ends;
+use records::kind_at;
+use records::record_count;
+use records::slot_at;
+use records::starts;
+use steps::both;
+use steps::less;
 use steps::product;
+use steps::smaller;
 use steps::wide;
+ghost use mathlib.Core.Path.{_≡_};
+ghost use mathlib.Core.Bool.{_&&_};
+ghost use Prim.Native.Nat.{_+_, _-_, _/_, _<_, _≤_, min};
+ghost use lib.ListN.{length};
+ghost use Rattle.model.specs.Sets.{on};
+ghost use Rattle.model.specs.Records.{recordSize};
+ghost use Rattle.model.specs.Plans.{slotsRead, planRecords};
+ghost use Rattle.model.specs.Line.{unitsBefore, timeOf, fedAt, stateAt, pointAt};
+ghost use Rattle.model.specs.Answers.{noPoint, Draws, Moves};
+ghost use Rattle.records.specs.Held.{asSlot};
+ghost use Rattle.records.specs.Plan.{slotIn};
+ghost use Rattle.order.specs.Held.{asOrder};
+ghost use Rattle.judge.specs.Verdict.{asAnswer};
+ghost use Rattle.draw.specs.Drawing.{asState, asPoint, asDrawn, answerOf, asPen, penAt, ownSlot, slotUnits, covering, Drawable, Sound};
 
 // "one of four states"; "Dosing carries the fan number"
 pub enum State {
@@ -52,96 +64,53 @@ pub struct Moved {
     pub drawn: Drawn,
 }
 
-// The moment at a place of an S record, in units of 1/W tick: "A moment is a tick plus part/W".
-fn moment_at(r: &[u8], at: usize) -> u64
-    requires { ⌜ (length (now r) ≡ 32) × (at ≤ 16) ⌝ }
-    ensures { λ m. ⌜ m ≡ numberAt (now (r .entry)) at 4 * numberAt (now (r .entry)) 20 4 + numberAt (now (r .entry)) (at + 4) 4 ⌝ }
+// Whether record k is a slot of the dose.
+fn own_slot(plan: &[u8], k: usize, dose: usize) -> bool
+    requires { ⌜ k < length (now plan) / recordSize ⌝ }
+    ensures { λ t. ⌜ t ≡ ownSlot (now (plan .entry)) k dose ⌝ }
 {
-    let tick = field::read32(r, at);
-    let part = field::read32(r, at + 4);
-    moment(tick, part, field::read32(r, 20))
-}
-
-fn slot_start(r: &[u8]) -> u64
-    requires { ⌜ length (now r) ≡ 32 ⌝ }
-    ensures { λ m. ⌜ m ≡ starts (slotOf (now (r .entry))) ⌝ }
-{
-    moment_at(r, 4)
-}
-
-fn slot_end(r: &[u8]) -> u64
-    requires { ⌜ length (now r) ≡ 32 ⌝ }
-    ensures { λ m. ⌜ m ≡ ends (slotOf (now (r .entry))) ⌝ }
-{
-    moment_at(r, 12)
-}
-
-// A tick in units of the slot's 1/W tick.
-fn units_to(r: &[u8], tick: u32) -> u64
-    requires { ⌜ length (now r) ≡ 32 ⌝ }
-    ensures { λ m. ⌜ m ≡ tick * slotOf (now (r .entry)) .grams ⌝ }
-{
-    product(tick, field::read32(r, 20))
-}
-
-// The units from a slot's start to its end that lie before a moment.
-fn counted(start: u64, end: u64, now: u64) -> u64
-    ensures { λ u. ⌜ u ≡ min end now - start ⌝ }
-{
-    if now <= start {
-        return 0;
-    }
-    if end <= start {
-        return 0;
-    }
-    if now < end {
-        return now - start;
-    }
-    end - start
-}
-
-// Whether a record is a slot of the dose.
-fn own_slot(r: &[u8], dose: usize) -> bool
-    requires { ⌜ length (now r) ≡ 32 ⌝ }
-    ensures { λ t. ⌜ t ≡ ownSlot (now (r .entry)) dose ⌝ }
-{
-    let kind = r[0];
-    if kind != 0x53 {
+    if kind_at(plan, k) != SLOT_KIND {
         return false;
     }
-    let d = field::read16(r, 2) as usize;
-    dose == d
+    let s = slot_at(plan, k);
+    dose == s.dose as usize
 }
 
-// "units of the dose's slots before t", in one record
-fn units_in(r: &[u8], dose: usize, tick: u32) -> u64
-    requires { ⌜ length (now r) ≡ 32 ⌝ }
-    ensures { λ u. ⌜ u ≡ unitsIn (now (r .entry)) dose tick ⌝ }
+// The units of a slot before a tick.
+fn units_in(s: Slot, tick: u32) -> u64
+    ensures { λ u. ⌜ u ≡ slotUnits (asSlot s) tick ⌝ }
 {
-    if !own_slot(r, dose) {
-        return 0;
-    }
-    let start = slot_start(r);
-    let end = slot_end(r);
-    let now = units_to(r, tick);
-    counted(start, end, now)
+    less(smaller(ends(s), product(tick, s.grams)), starts(s))
 }
 
 // "a slot covers the instant t (start at or before t, end after)"
-fn feeds(r: &[u8], dose: usize, tick: u32) -> bool
-    requires { ⌜ length (now r) ≡ 32 ⌝ }
-    ensures { λ t. ⌜ t ≡ feedsAt (now (r .entry)) dose tick ⌝ }
+fn covers(s: Slot, tick: u32) -> bool
+    ensures { λ t. ⌜ t ≡ covering (asSlot s) tick ⌝ }
 {
-    if !own_slot(r, dose) {
+    let now = product(tick, s.grams);
+    both(starts(s) <= now, now < ends(s))
+}
+
+// "units of the dose's slots before t", in record k
+fn units_at(plan: &[u8], k: usize, dose: usize, tick: u32) -> u64
+    requires { ⌜ k < length (now plan) / recordSize ⌝ }
+    ensures { λ u. ⌜ u ≡ on (ownSlot (now (plan .entry)) k dose) (slotUnits (slotIn (now (plan .entry)) k) tick) ⌝ }
+{
+    if !own_slot(plan, k, dose) {
+        return 0;
+    }
+    units_in(slot_at(plan, k), tick)
+}
+
+// Whether record k is a slot of the dose that covers the instant.
+fn feeds(plan: &[u8], k: usize, dose: usize, tick: u32) -> bool
+    requires { ⌜ k < length (now plan) / recordSize ⌝ }
+    ensures { λ t. ⌜ t ≡ (ownSlot (now (plan .entry)) k dose && covering (slotIn (now (plan .entry)) k) tick) ⌝ }
+{
+    if !own_slot(plan, k, dose) {
         return false;
     }
-    let now = units_to(r, tick);
-    let start = slot_start(r);
-    if now < start {
-        return false;
-    }
-    let end = slot_end(r);
-    now < end
+    covers(slot_at(plan, k), tick)
 }
 
 // "units of the dose's slots before t"
@@ -149,13 +118,11 @@ fn units_before(plan: &[u8], dose: usize, tick: u32) -> u64
     requires { ⌜ Drawable (now plan) dose ⌝ }
     ensures { λ u. ⌜ u ≡ unitsBefore (slotsRead (planRecords (now (plan .entry)))) dose tick ⌝ }
 {
-    let n = plan.len() / 32;
+    let n = record_count(plan);
     let mut sum = 0;
     let mut k = 0;
     while k < n {
-        let a = 32 * k;
-        let e = a + 32;
-        let u = units_in(&plan[a..e], dose, tick);
+        let u = units_at(plan, k, dose, tick);
         sum += u;
         k += 1;
     }
@@ -167,13 +134,12 @@ fn time_of(plan: &[u8], dose: usize) -> u32
     requires { ⌜ Drawable (now plan) dose ⌝ }
     ensures { λ p. ⌜ p ≡ timeOf (slotsRead (planRecords (now (plan .entry)))) dose ⌝ }
 {
-    let n = plan.len() / 32;
+    let n = record_count(plan);
     let mut k = 0;
     while k < n {
-        let a = 32 * k;
-        let e = a + 32;
-        if own_slot(&plan[a..e], dose) {
-            return field::read32(&plan[a..e], 24);
+        if own_slot(plan, k, dose) {
+            let s = slot_at(plan, k);
+            return s.time;
         }
         k += 1;
     }
@@ -185,13 +151,12 @@ fn fed_at(plan: &[u8], dose: usize, tick: u32) -> State
     requires { ⌜ Drawable (now plan) dose ⌝ }
     ensures { λ s. ⌜ asState s ≡ fedAt (slotsRead (planRecords (now (plan .entry)))) dose tick ⌝ }
 {
-    let n = plan.len() / 32;
+    let n = record_count(plan);
     let mut k = 0;
     while k < n {
-        let a = 32 * k;
-        let e = a + 32;
-        if feeds(&plan[a..e], dose, tick) {
-            return State::Dosing(field::read8(&plan[a..e], 1));
+        if feeds(plan, k, dose, tick) {
+            let s = slot_at(plan, k);
+            return State::Dosing(s.fan);
         }
         k += 1;
     }

@@ -2,7 +2,8 @@
 use mathlib.Core.List.{List}
 use Prim.Native.Nat.{ℕ, _+_, _/_, _<_, _≤_}
 use lib.ListN.{length}
-use Rattle.clauses.specs.Tests.{Counts, InTurn, Ready, Sheet, SlotFits, slotIn}
+use Rattle.records.specs.Plan.{slotIn}
+use Rattle.clauses.specs.Tests.{Counts, InTurn, Ready, Sheet, SlotFits}
 use Rattle.slots.proofs.Places.{turns-all}
 use Rattle.pairs.proofs.Turns.{turn-place}
 

@@ -11,9 +11,10 @@ use Rattle.model.specs.Records.{pick}
 use Rattle.model.specs.Plans as plans
 use Rattle.steps.proofs.Tests.{alike}
 use Rattle.steps.proofs.Arrays.{filled-one}
-use Rattle.plan_records.specs.declared.Slot.{Slot}
-use Rattle.plan_records.specs.Held.{asSlot}
-use Rattle.clauses.specs.Tests.{Numbers, numberOf, slotIn}
+use Rattle.records.specs.declared.plan_records.Slot.{Slot}
+use Rattle.records.specs.Held.{asSlot}
+use Rattle.records.specs.Plan.{slotIn}
+use Rattle.clauses.specs.Tests.{Numbers, numberOf}
 
 -- ---- the number of one dose
 

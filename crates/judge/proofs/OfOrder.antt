@@ -26,7 +26,8 @@ use Rattle.order.proofs.Fields.{doses-is, fans-is, top-grams-is, top-seconds-is
 use Rattle.interval.specs.declared.Instants.{Instants}
 use Rattle.interval.specs.Held.{InstantsOf}
 use Rattle.interval.proofs.Laws.{count-is, instant-is}
-use Rattle.clauses.specs.Tests.{Finds, Passes, Sheet, SheetOf, classIn, setsOf, sheet}
+use Rattle.records.specs.Plan.{classIn}
+use Rattle.clauses.specs.Tests.{Finds, Passes, Sheet, SheetOf, setsOf, sheet}
 use Rattle.judge.specs.Verdict.{Against, Certifies, Leader, fast, fastBy, slow}
 use Rattle.judge.specs.declared.Judged.{Judged}
 use Rattle.judge.specs.declared.Judged.the-variants as is

@@ -2,10 +2,12 @@
 mod numbers; // numbers.rt: the class of each dose, as the slots name it
 mod top; // top.rt: refusal 9
 
-use clauses::records;
+use clauses::rows;
 use order::Order;
+use records::RECORD_SIZE;
 ghost use Prim.Native.Nat.{_/_, _≤_};
 ghost use lib.ListN.{length};
+ghost use Rattle.model.specs.Records.{recordSize};
 ghost use Rattle.model.proofs.Orders.{Fit};
 ghost use Rattle.order.specs.Held.{asOrder};
 ghost use Rattle.judge.specs.Verdict.{Certifies, Verdict};
@@ -28,19 +30,19 @@ pub enum Judged {
 
 // What the records say by themselves and of the sets that the slots name.
 fn rows_pass(plan: &[u8], p: usize, numbers: &[u32; 24], doses: usize) -> bool
-    requires { ⌜ (p ≤ length (now plan) / 32) × (doses ≤ 24) ⌝ }
+    requires { ⌜ (p ≤ length (now plan) / recordSize) × (doses ≤ 24) ⌝ }
     ensures { λ t. ⌜ Tells t (RowsPass doses (now (plan .entry)) p (now (numbers .entry))) ⌝ }
 {
-    if plan.len() % 32 != 0 {
+    if plan.len() % RECORD_SIZE != 0 {
         return false;
     }
     if doses < p {
         return false;
     }
-    if !records::class_rows(plan, p) {
+    if !rows::class_rows(plan, p) {
         return false;
     }
-    if !records::slot_rows(plan, p) {
+    if !rows::slot_rows(plan, p) {
         return false;
     }
     if !numbers::numbered(numbers, doses, p) {
@@ -62,7 +64,7 @@ fn all_pass(
     intervals: usize,
     fans: u32,
 ) -> bool
-    requires { ⌜ (p ≤ length (now plan) / 32) × (doses ≤ 24) × (intervals ≤ 47) ⌝ }
+    requires { ⌜ (p ≤ length (now plan) / recordSize) × (doses ≤ 24) × (intervals ≤ 47) ⌝ }
     ensures { λ t. ⌜ Tells t (Passes (sheet doses intervals fans (now (release .entry)) (now (deadline .entry)) (now (grams .entry)) (now (instants .entry))) (now (plan .entry)) p (now (numbers .entry))) ⌝ }
 {
     if !rows_pass(plan, p, numbers, doses) {
@@ -119,7 +121,7 @@ fn find(
     requires { ⌜ (doses ≤ 24) × (intervals ≤ 47) ⌝ }
     ensures { λ r. ⌜ Finds (sheet doses intervals fans (now (release .entry)) (now (deadline .entry)) (now (grams .entry)) (now (instants .entry))) (now (plan .entry)) (r .classes) (r .numbers) (r .stands) ⌝ }
 {
-    let p = records::lead(plan);
+    let p = rows::lead(plan);
     let numbers = numbers::numbers_of(plan, p);
     let stands = all_pass(
         plan,

@@ -1,10 +1,12 @@
 // The class number of each dose, as the plan's own slots name it.
-use clauses::records::slot_at;
+use records::RECORD_SIZE;
+use records::slot_at;
 use steps::index;
 ghost use mathlib.Core.Path.{_≡_};
 ghost use mathlib.Core.Logic.{_≢_};
 ghost use Prim.Native.Nat.{ℕ, _/_, _<_, _≤_};
 ghost use lib.ListN.{length, getD};
+ghost use Rattle.model.specs.Records.{recordSize};
 ghost use Rattle.clauses.specs.Tests.{Tells, Numbers};
 
 // The number of one dose is noted, where there can be such a dose.
@@ -23,10 +25,10 @@ fn noted(before: [u32; 24], dose: u32, class: u32) -> [u32; 24]
 
 // "each slot names a dose of its class": the slots' own numbers, the last one of each dose.
 pub fn numbers_of(plan: &[u8], p: usize) -> [u32; 24]
-    requires { ⌜ p ≤ length (now plan) / 32 ⌝ }
-    ensures { λ r. ⌜ Numbers (now (plan .entry)) p (length (now (plan .entry)) / 32) r ⌝ }
+    requires { ⌜ p ≤ length (now plan) / recordSize ⌝ }
+    ensures { λ r. ⌜ Numbers (now (plan .entry)) p (length (now (plan .entry)) / recordSize) r ⌝ }
 {
-    let m = plan.len() / 32;
+    let m = plan.len() / RECORD_SIZE;
     let mut numbers = [0u32; 24];
     let mut i = p;
     while i < m {

@@ -1,7 +1,7 @@
 // Refusal 9: "first class: W × top seconds above P × top grams".
 use crate::Judged;
-use clauses::records::class_at;
 use order::Order;
+use records::class_at;
 use steps::on;
 use steps::product;
 use steps::wide;

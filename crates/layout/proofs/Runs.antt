@@ -5,8 +5,8 @@ use Prim.Native.Nat.{ℕ, _+_, _*_, _≤_, _<_}
 use native.Mathlib.Numerals.{add-one}
 use native.Mathlib.Omega.{arith}
 use lib.ListN.{length, length-append, length-map}
-use Rattle.field.specs.Written.{written}
-use Rattle.field.proofs.Laws.{join, length-written, written-none}
+use Rattle.records.specs.Written.{written}
+use Rattle.records.proofs.Laws.{join, length-written, written-none}
 use Rattle.model.specs.Lists.{gather}
 use Rattle.model.specs.Plans.{PlanRecord, planRecordBytes, recordsBytes}
 use Rattle.model.proofs.Lists.{length-gather, sum-before}

@@ -6,7 +6,7 @@ use native.Mathlib.Nat.{div-le-of-le-mul, mod-lt, mul-le-mul-right, mul-pos}
 use native.Mathlib.Numerals.{add-one}
 use native.Mathlib.Omega.{arith}
 use lib.ListN.{length, length-map}
-use Rattle.field.specs.Written.{written}
+use Rattle.records.specs.Written.{written}
 use Rattle.model.specs.Sets.{sum}
 use Rattle.model.specs.Lists.{gather}
 use Rattle.model.specs.Plans.{Slot, planRecordBytes, slotRecord}

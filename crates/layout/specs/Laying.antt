@@ -3,7 +3,7 @@ use mathlib.Core.Path.{_≡_}
 use mathlib.Core.List.{List, map}
 use Prim.Native.Nat.{ℕ, _+_, _*_, _≤_, _<_}
 use lib.ListN.{getD, length}
-use Rattle.field.specs.Written.{written}
+use Rattle.records.specs.Written.{written}
 use Rattle.model.specs.Sets.{sum}
 use Rattle.model.specs.Plans.{PlanRecord, recordsBytes}
 use Rattle.model.specs.Layout.{Lane, cut, laneSlots}

@@ -1,16 +1,18 @@
 // Slots laid by wrap-around into a lent buffer (document 01, "From classes to slots").
-use plan_records::Slot;
-use plan_records::put_slot;
+use records::RECORD_SIZE;
+use records::Slot;
+use records::put_slot;
 use steps::of_byte;
 ghost use mathlib.Core.Path.{_≡_};
 ghost use mathlib.Core.List.{map};
 ghost use Prim.Native.Nat.{_+_, _*_, _<_, _≤_};
 ghost use lib.Dec.{eqb};
 ghost use lib.ListN.{length, getD};
+ghost use Rattle.model.specs.Records.{recordSize};
 ghost use Rattle.model.specs.Sets.{on};
 ghost use Rattle.model.specs.Plans.{slotRecord};
 ghost use Rattle.model.specs.Layout.{cut, pieceSlot, laneSlots, intervalSlots, tableSlots};
-ghost use Rattle.plan_records.specs.Held.{asSlot};
+ghost use Rattle.records.specs.Held.{asSlot};
 ghost use Rattle.layout.specs.Held.{asLane, shareAt, laneAt, tableFrom};
 ghost use Rattle.layout.specs.Laying.{Wrote, Ready, Room, Rooms, Filled};
 
@@ -67,12 +69,16 @@ fn lay_share(b: &mut [u8], r: usize, l: Lane, dose: u32, a: u64, x: u64) -> usiz
     let fan = a / c;
     let low = a % c;
     if low + x <= c {
-        put_slot(b, 32 * r, slot_of(l, dose, fan, low, low + x));
+        put_slot(b, RECORD_SIZE * r, slot_of(l, dose, fan, low, low + x));
         return r + 1;
     }
     let next = r + 2;
-    put_slot(b, 32 * r, slot_of(l, dose, fan, low, c));
-    put_slot(b, 32 * r + 32, slot_of(l, dose, fan + 1, 0, low + x - c));
+    put_slot(b, RECORD_SIZE * r, slot_of(l, dose, fan, low, c));
+    put_slot(
+        b,
+        RECORD_SIZE * r + RECORD_SIZE,
+        slot_of(l, dose, fan + 1, 0, low + x - c),
+    );
     next
 }
 
@@ -137,7 +143,7 @@ fn lay_interval(
     reserved: &[[u8; 47]; 24],
     j: usize,
 ) -> usize
-    requires { ⌜ Filled t (now shares) (now reserved) × (j < t .intervals) × (32 * (r + length (intervalSlots (tableFrom t (now shares) (now reserved)) j)) ≤ length (now b)) ⌝ }
+    requires { ⌜ Filled t (now shares) (now reserved) × (j < t .intervals) × (recordSize * (r + length (intervalSlots (tableFrom t (now shares) (now reserved)) j)) ≤ length (now b)) ⌝ }
     ensures { λ q. ⌜ Wrote slotRecord (intervalSlots (tableFrom t (now (shares .entry)) (now (reserved .entry))) j) (now (b .entry)) r (now (b .exit)) q ⌝ }
 {
     let mut at = r;
@@ -159,7 +165,7 @@ pub fn lay_all(
     shares: &[u64],
     reserved: &[[u8; 47]; 24],
 ) -> usize
-    requires { ⌜ Filled t (now shares) (now reserved) × (32 * (r + length (tableSlots (tableFrom t (now shares) (now reserved)))) ≤ length (now b)) ⌝ }
+    requires { ⌜ Filled t (now shares) (now reserved) × (recordSize * (r + length (tableSlots (tableFrom t (now shares) (now reserved)))) ≤ length (now b)) ⌝ }
     ensures { λ q. ⌜ Wrote slotRecord (tableSlots (tableFrom t (now (shares .entry)) (now (reserved .entry)))) (now (b .entry)) r (now (b .exit)) q ⌝ }
 {
     let mut at = r;

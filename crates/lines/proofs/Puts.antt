@@ -10,7 +10,7 @@ use borrow.Author.Tests.{le-ltb, lt-ltb}
 use lib.Dec.{ltb}
 use lib.ListN.{length, getD, set, take, length-append}
 use lib.Seq.{length-take-le, take-all, take-suc}
-use Rattle.field.proofs.Laws.{join, length-written, written-none, written-one}
+use Rattle.records.proofs.Laws.{join, length-written, written-none, written-one}
 use Rattle.lines.specs.Text.{Put, decimal, numberText, numbersText}
 
 -- the promise leaves no choice

@@ -1,4 +1,4 @@
--- Laws of the lines of records: the numbers of a line are the record's fields, and a line is at most 160 bytes long. Assumes nothing.
+-- Laws of the lines of records: a record's line goes by its kind, and is at most 160 bytes long. Assumes nothing.
 use mathlib.Core.Path.{_≡_}
 use mathlib.Core.Bool.{Bool, true, false}
 use mathlib.Core.List.{List, [], _∷_, _++_}
@@ -7,10 +7,11 @@ use native.Mathlib.Omega.{arith}
 use native.Mathlib.Numerals.{add-one}
 use borrow.Author.Tests.{eq-eqb, ne-eqb}
 use lib.Dec.{eqb}
-use lib.ListN.{length, getD, take, drop, length-append}
+use lib.ListN.{length, getD, length-append}
 use Rattle.model.specs.Lists.{gather}
-use Rattle.model.specs.Records.{pick, numberAt, fieldsAt, recordAt}
+use Rattle.model.specs.Records.{pick, classKind, recordAt}
 use Rattle.model.specs.Plans.{Class, Slot, classOf, slotOf}
+use Rattle.records.specs.Plan.{kindAt, classIn, slotIn}
 use Rattle.lines.specs.Text.{Put, lineText, numbersText, classText, slotText, totalText, refusedText, recordText, recordsText, planText}
 use Rattle.lines.proofs.Puts.{numbers-length, put-none, put-more}
 
@@ -35,40 +36,22 @@ slot-length s =
 -- the line of a record is at most 160 bytes
 pub record-length : (r : List ℕ) → length (recordText r) ≤ 160
 unfolding recordText
-record-length r = go (eqb (getD r 0 0) 0x43)
+record-length r = go (eqb (getD r 0 0) classKind)
   where
     go : (t : Bool) → length (pick t (classText (classOf r)) (slotText (slotOf r))) ≤ 160
     go true = class-length (classOf r)
     go false = slot-length (slotOf r)
 
 module _ {b b′ : List ℕ} {at e : ℕ} where
-  -- ---- a record's fields
+  -- ---- a record, by its kind
 
-  pub put-class-fields : (r : List ℕ) {n d w p : ℕ} → n ≡ numberAt r 1 1 → d ≡ numberAt r 2 2 → w ≡ numberAt r 4 4 → p ≡ numberAt r 8 4
-      → Put (lineText (99 ∷ 108 ∷ 97 ∷ 115 ∷ 115 ∷ []) (n ∷ d ∷ w ∷ p ∷ [])) b at b′ e → Put (classText (classOf r)) b at b′ e
-  unfolding fieldsAt classText
-  put-class-fields r hn hd hw hp h = rw (hn, hd, hw, hp) at h
+  pub put-of-class : (plan : List ℕ) (i : ℕ) {c : Class} → kindAt plan i ≡ classKind → c ≡ classIn plan i → Put (classText c) b at b′ e → Put (recordText (recordAt plan i)) b at b′ e
+  unfolding recordText classIn
+  put-of-class plan i k q h = rw (eq-eqb (kindAt plan i) classKind k) (rw q at h)
 
-  pub put-slot-fields : (r : List ℕ) {f d st sp et ep c : ℕ} → f ≡ numberAt r 1 1 → d ≡ numberAt r 2 2 → st ≡ numberAt r 4 4 → sp ≡ numberAt r 8 4
-      → et ≡ numberAt r 12 4 → ep ≡ numberAt r 16 4 → c ≡ numberAt r 28 1
-      → Put (lineText (115 ∷ 108 ∷ 111 ∷ 116 ∷ []) (f ∷ d ∷ st ∷ sp ∷ et ∷ ep ∷ c ∷ [])) b at b′ e → Put (slotText (slotOf r)) b at b′ e
-  unfolding fieldsAt slotText
-  put-slot-fields r hf hd hst hsp het hep hc h = rw (hf, hd, hst, hsp, het, hep, hc) at h
-
-  -- ---- its kind
-
-  pub put-of-class : (r : List ℕ) → getD r 0 0 ≡ 0x43 → Put (classText (classOf r)) b at b′ e → Put (recordText r) b at b′ e
-  unfolding recordText
-  put-of-class r k h = rw (eq-eqb (getD r 0 0) 0x43 k) h
-
-  pub put-of-slot : (r : List ℕ) → (getD r 0 0 ≡ 0x43 → ⊥) → Put (slotText (slotOf r)) b at b′ e → Put (recordText r) b at b′ e
-  unfolding recordText
-  put-of-slot r k h = rw (ne-eqb (getD r 0 0) 0x43 k) h
-
-  -- ---- its place
-
-  pub put-at : (plan : List ℕ) (i : ℕ) → Put (recordText (take (32 * i + 32 - 32 * i) (drop (32 * i) plan))) b at b′ e → Put (recordText (recordAt plan i)) b at b′ e
-  put-at plan i h = let q : 32 * i + 32 - 32 * i ≡ 32 = omega arith in rw q at h
+  pub put-of-slot : (plan : List ℕ) (i : ℕ) {s : Slot} → (kindAt plan i ≡ classKind → ⊥) → s ≡ slotIn plan i → Put (slotText s) b at b′ e → Put (recordText (recordAt plan i)) b at b′ e
+  unfolding recordText slotIn
+  put-of-slot plan i k q h = rw (ne-eqb (kindAt plan i) classKind k) (rw q at h)
 
   -- ---- a refusal
 

@@ -9,7 +9,7 @@ use lib.Dec.{eqb}
 use lib.ListN.{length, getD, take, drop, length-append, length-map, length-drop}
 use lib.Seq.{take-append-le, drop-append-le}
 use Rattle.model.specs.Lists.{gather}
-use Rattle.model.specs.Records.{pick, Reading, read, refused, andThen, blankAt, classParts, slotParts, recordAt, readFrom, readAll}
+use Rattle.model.specs.Records.{pick, Reading, read, refused, andThen, classKind, slotKind, blankAt, classParts, slotParts, recordAt, readFrom, readAll}
 use Rattle.model.specs.Plans.{Class, Slot, PlanRecord, classRecord, slotRecord, classOf, slotOf, planOf, planRecordOf, planRecords}
 use Rattle.lines.specs.Text.{classText, slotText, totalText, recordText, planText, saidText, saidLines}
 
@@ -19,7 +19,7 @@ never {A} {number = number} {place = place} {a = a} e = let z : _≡_ {A = ℕ} 
 -- a record that is read has the line of what it says
 record-said : (r : List ℕ) (i : ℕ) (p : PlanRecord) → planRecordOf r i ≡ read p → recordText r ≡ saidText p
 unfolding planRecordOf recordText
-record-said r i p e = go (eqb (getD r 0 0) 0x43) (blankAt classParts r 0) (eqb (getD r 0 0) 0x53) (blankAt slotParts r 0) e
+record-said r i p e = go (eqb (getD r 0 0) classKind) (blankAt classParts r 0) (eqb (getD r 0 0) slotKind) (blankAt slotParts r 0) e
   where
     go : (c zc s zs : Bool)
         → pick c (pick zc (read (classRecord (classOf r))) (refused 10 0)) (pick s (pick zs (read (slotRecord (slotOf r))) (refused 10 0)) (refused 10 0)) ≡ read p

@@ -4,9 +4,9 @@ use mathlib.Core.List.{List, [], _∷_, _++_}
 use Prim.Native.Nat.{ℕ, zero, suc, _+_, _*_, _-_, _/_, _%_}
 use lib.Dec.{eqb, ltb}
 use lib.ListN.{length, getD}
-use Rattle.field.specs.Written.{written}
+use Rattle.records.specs.Written.{written}
 use Rattle.model.specs.Lists.{gather}
-use Rattle.model.specs.Records.{pick, recordAt}
+use Rattle.model.specs.Records.{pick, classKind, recordAt}
 use Rattle.model.specs.Plans.{Class, Slot, PlanRecord, classRecord, slotRecord, classOf, slotOf}
 
 -- ---- numbers
@@ -60,7 +60,7 @@ refusedText number place set grams time =
 
 -- the line of a record, by its kind
 unfoldable pub recordText : List ℕ → List ℕ
-recordText r = pick (eqb (getD r 0 0) 0x43) (classText (classOf r)) (slotText (slotOf r))
+recordText r = pick (eqb (getD r 0 0) classKind) (classText (classOf r)) (slotText (slotOf r))
 
 -- the lines of the first n records of plan bytes
 abbrev pub recordsText : List ℕ → ℕ → List ℕ

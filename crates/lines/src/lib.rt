@@ -1,9 +1,14 @@
 // The printer's text, written into a lent buffer (document 01, "The plan printer").
-ghost use mathlib.Core.Path.{_≡_};
-ghost use Prim.Native.Nat.{_+_, _*_, _<_, _≤_};
+use records::CLASS_KIND;
+use records::Class;
+use records::Slot;
+use records::class_at;
+use records::kind_at;
+use records::slot_at;
+ghost use Prim.Native.Nat.{_+_, _*_, _/_, _<_, _≤_};
 ghost use lib.ListN.{length};
-ghost use Rattle.model.specs.Records.{numberAt, recordAt};
-ghost use Rattle.model.specs.Plans.{classOf, slotOf};
+ghost use Rattle.model.specs.Records.{recordAt, recordSize};
+ghost use Rattle.records.specs.Held.{asClass, asSlot};
 ghost use Rattle.lines.specs.Text.{decimal, numberText, numbersText, lineText, classText, slotText, totalText, refusedText, recordText, recordsText, planText, Put};
 
 // Writes a number in decimal, in at most so many places. Gives back the place behind it.
@@ -70,87 +75,57 @@ fn put_line(b: &mut [u8], at: usize, word: &[u8], numbers: &[u64]) -> usize
     end + 1
 }
 
-// The number in the byte at a place of a record, and in the two and four bytes from a place on.
-fn one_byte(bytes: &[u8], at: usize) -> u64
-    requires { ⌜ at + 1 ≤ length (now bytes) ⌝ }
-    ensures { λ r. ⌜ r ≡ numberAt (now (bytes .entry)) at 1 ⌝ }
-{
-    field::read8(bytes, at) as u64
-}
-
-fn two_bytes(bytes: &[u8], at: usize) -> u64
-    requires { ⌜ at + 2 ≤ length (now bytes) ⌝ }
-    ensures { λ r. ⌜ r ≡ numberAt (now (bytes .entry)) at 2 ⌝ }
-{
-    field::read16(bytes, at) as u64
-}
-
-fn four_bytes(bytes: &[u8], at: usize) -> u64
-    requires { ⌜ at + 4 ≤ length (now bytes) ⌝ }
-    ensures { λ r. ⌜ r ≡ numberAt (now (bytes .entry)) at 4 ⌝ }
-{
-    field::read32(bytes, at) as u64
-}
-
 // "`class` number, doses, W, P"
-fn put_class(b: &mut [u8], at: usize, bytes: &[u8]) -> usize
-    requires { ⌜ (length (now bytes) ≡ 32) × (at + 160 ≤ length (now b)) ⌝ }
-    ensures { λ r. ⌜ Put (classText (classOf (now (bytes .entry)))) (now (b .entry)) at (now (b .exit)) r ⌝ }
+fn put_class(b: &mut [u8], at: usize, c: Class) -> usize
+    requires { ⌜ at + 160 ≤ length (now b) ⌝ }
+    ensures { λ r. ⌜ Put (classText (asClass c)) (now (b .entry)) at (now (b .exit)) r ⌝ }
 {
-    let number = one_byte(bytes, 1);
-    let doses = two_bytes(bytes, 2);
-    let grams = four_bytes(bytes, 4);
-    let time = four_bytes(bytes, 8);
-    let numbers = [number, doses, grams, time];
+    let numbers = [
+        c.number as u64,
+        c.doses as u64,
+        c.grams as u64,
+        c.time as u64,
+    ];
     put_line(b, at, b"class", &numbers)
 }
 
 // "`slot` fan, dose, start tick, part, end tick, part, class"
-fn put_slot(b: &mut [u8], at: usize, bytes: &[u8]) -> usize
-    requires { ⌜ (length (now bytes) ≡ 32) × (at + 160 ≤ length (now b)) ⌝ }
-    ensures { λ r. ⌜ Put (slotText (slotOf (now (bytes .entry)))) (now (b .entry)) at (now (b .exit)) r ⌝ }
+fn put_slot(b: &mut [u8], at: usize, s: Slot) -> usize
+    requires { ⌜ at + 160 ≤ length (now b) ⌝ }
+    ensures { λ r. ⌜ Put (slotText (asSlot s)) (now (b .entry)) at (now (b .exit)) r ⌝ }
 {
-    let fan = one_byte(bytes, 1);
-    let dose = two_bytes(bytes, 2);
-    let start_tick = four_bytes(bytes, 4);
-    let start_part = four_bytes(bytes, 8);
-    let end_tick = four_bytes(bytes, 12);
-    let end_part = four_bytes(bytes, 16);
-    let class = one_byte(bytes, 28);
-    let numbers = [fan, dose, start_tick, start_part, end_tick, end_part, class];
+    let numbers = [
+        s.fan as u64,
+        s.dose as u64,
+        s.start_tick as u64,
+        s.start_part as u64,
+        s.end_tick as u64,
+        s.end_part as u64,
+        s.class as u64,
+    ];
     put_line(b, at, b"slot", &numbers)
 }
 
-// The line of a record, by its kind.
-fn put_record(b: &mut [u8], at: usize, bytes: &[u8]) -> usize
-    requires { ⌜ (length (now bytes) ≡ 32) × (at + 160 ≤ length (now b)) ⌝ }
-    ensures { λ r. ⌜ Put (recordText (now (bytes .entry))) (now (b .entry)) at (now (b .exit)) r ⌝ }
-{
-    if bytes[0] == 0x43 {
-        return put_class(b, at, bytes);
-    }
-    put_slot(b, at, bytes)
-}
-
-// The line of record i of a plan.
-fn put_record_at(b: &mut [u8], at: usize, plan: &[u8], i: usize) -> usize
-    requires { ⌜ (32 * i + 32 ≤ length (now plan)) × (at + 160 ≤ length (now b)) ⌝ }
+// The line of record i of a plan, by its kind.
+fn put_record(b: &mut [u8], at: usize, plan: &[u8], i: usize) -> usize
+    requires { ⌜ (i < length (now plan) / recordSize) × (at + 160 ≤ length (now b)) ⌝ }
     ensures { λ r. ⌜ Put (recordText (recordAt (now (plan .entry)) i)) (now (b .entry)) at (now (b .exit)) r ⌝ }
 {
-    let from = 32 * i;
-    let end = from + 32;
-    put_record(b, at, &plan[from..end])
+    if kind_at(plan, i) == CLASS_KIND {
+        return put_class(b, at, class_at(plan, i));
+    }
+    put_slot(b, at, slot_at(plan, i))
 }
 
 // The lines of the first n records of a plan.
 fn put_records(b: &mut [u8], plan: &[u8], n: usize) -> usize
-    requires { ⌜ (32 * n ≤ length (now plan)) × (160 * n ≤ length (now b)) ⌝ }
+    requires { ⌜ (recordSize * n ≤ length (now plan)) × (160 * n ≤ length (now b)) ⌝ }
     ensures { λ r. ⌜ Put (recordsText (now (plan .entry)) n) (now (b .entry)) 0 (now (b .exit)) r ⌝ }
 {
     let mut at = 0;
     let mut i = 0;
     while i < n {
-        at = put_record_at(b, at, plan, i);
+        at = put_record(b, at, plan, i);
         i += 1;
     }
     at
@@ -167,7 +142,7 @@ fn put_total(b: &mut [u8], at: usize, classes: usize, slots: usize) -> usize
 
 // The text of a plan, from the buffer's first byte on: a line for each class and slot, and the total. Gives back its length.
 pub fn print_plan(plan: &[u8], classes: usize, slots: usize, out: &mut [u8]) -> usize
-    requires { ⌜ (32 * (classes + slots) ≤ length (now plan)) × (160 * (classes + slots + 1) ≤ length (now out)) ⌝ }
+    requires { ⌜ (recordSize * (classes + slots) ≤ length (now plan)) × (160 * (classes + slots + 1) ≤ length (now out)) ⌝ }
     ensures { λ r. ⌜ Put (planText (now (plan .entry)) classes slots) (now (out .entry)) 0 (now (out .exit)) r ⌝ }
 {
     let at = put_records(out, plan, classes + slots);

@@ -19,8 +19,8 @@ slotFields kind s = kind ∷ s .fan ∷ s .dose ∷ s .startTick ∷ s .startPar
 -- a record is 32 bytes
 pub length-one : (r : PlanRecord) → length (planRecordBytes r) ≡ 32
 unfolding planRecordBytes sizeOf
-length-one (classRecord c) = length-record classParts (classFields 0x43 c)
-length-one (slotRecord s) = length-record slotParts (slotFields 0x53 s)
+length-one (classRecord c) = length-record classParts (classFields classKind c)
+length-one (slotRecord s) = length-record slotParts (slotFields slotKind s)
 
 -- n records are 32 × n bytes
 pub length-records : (rs : List PlanRecord) → length (recordsBytes rs) ≡ 32 * length rs

@@ -7,7 +7,7 @@ use lib.Dec.{eqb}
 use lib.ListN.{length, getD}
 use Rattle.model.specs.Sets.{Doses, Sub}
 use Rattle.model.specs.Lists.{All}
-use Rattle.model.specs.Records.{fansParts, doseParts, recordBytes, read}
+use Rattle.model.specs.Records.{fansKind, doseKind, fansParts, doseParts, recordBytes, read}
 use Rattle.model.specs.Orders.{Order, readOrder}
 use Rattle.model.specs.Classes.{Classes}
 use Rattle.model.specs.Intervals.{settingOf, fansPresent}
@@ -86,11 +86,11 @@ pub record Right (c : Case) : Type 0 where
 
 -- an F record
 abbrev F : ℕ → ℕ → ℕ → List ℕ
-F fans grams seconds = recordBytes fansParts (0x46 ∷ fans ∷ grams ∷ seconds ∷ [])
+F fans grams seconds = recordBytes fansParts (fansKind ∷ fans ∷ grams ∷ seconds ∷ [])
 
 -- a D record
 abbrev D : ℕ → ℕ → ℕ → ℕ → List ℕ
-D bay release deadline grams = recordBytes doseParts (0x44 ∷ bay ∷ release ∷ deadline ∷ grams ∷ [])
+D bay release deadline grams = recordBytes doseParts (doseKind ∷ bay ∷ release ∷ deadline ∷ grams ∷ [])
 
 -- number, doses, W, P
 abbrev class : ℕ → ℕ → ℕ → ℕ → Class

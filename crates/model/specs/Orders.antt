@@ -4,7 +4,7 @@ use mathlib.Core.List.{List, [], _∷_, _++_}
 use Prim.Native.Nat.{ℕ, suc, _+_, _%_}
 use lib.Dec.{eqb, leb}
 use lib.ListN.{length, getD}
-use Rattle.model.specs.Records.{pick, within, Reading, read, refused, andThen, fansParts, doseParts, blankAt, fieldOf, readAll}
+use Rattle.model.specs.Records.{pick, within, Reading, read, refused, andThen, recordSize, fansKind, doseKind, fansParts, doseParts, blankAt, fieldOf, readAll}
 
 -- the fields of an F record
 pub record Fans : Type 0 where
@@ -65,8 +65,8 @@ checked blank fits e i = pick blank (pick fits (read e) (refused 5 i)) (refused 
 -- record i from its bytes: 3 "kind in an order neither F nor D", then 4, then 5, each with the record's index
 unfoldable pub entryOf : List ℕ → ℕ → Reading Entry
 entryOf r i =
-    pick (eqb (getD r 0 0) 0x46) (checked (blankAt fansParts r 0) (fansFit (fansOf r)) (fansEntry (fansOf r)) i)
-    (pick (eqb (getD r 0 0) 0x44) (checked (blankAt doseParts r 0) (doseFits (doseOf r)) (doseEntry (doseOf r)) i) (refused 3 i))
+    pick (eqb (getD r 0 0) fansKind) (checked (blankAt fansParts r 0) (fansFit (fansOf r)) (fansEntry (fansOf r)) i)
+    (pick (eqb (getD r 0 0) doseKind) (checked (blankAt doseParts r 0) (doseFits (doseOf r)) (doseEntry (doseOf r)) i) (refused 3 i))
 
 -- ---- all records
 
@@ -123,4 +123,4 @@ orderOf es =
 
 -- 2 "order length no multiple of 32, or over 1,600", "then record by record 3, 4, 5 in that order, then 6, 7, 8"
 unfoldable pub readOrder : List ℕ → Reading Order
-readOrder bytes = pick (eqb (length bytes % 32) 0 && leb (length bytes) 1600) (andThen (readAll entryOf bytes) orderOf) (refused 2 0)
+readOrder bytes = pick (eqb (length bytes % recordSize) 0 && leb (length bytes) 1600) (andThen (readAll entryOf bytes) orderOf) (refused 2 0)

@@ -3,7 +3,7 @@ use mathlib.Core.List.{List, [], _∷_, _++_, map}
 use Prim.Native.Nat.{ℕ, _%_}
 use lib.Dec.{eqb}
 use lib.ListN.{length, getD}
-use Rattle.model.specs.Records.{pick, Reading, read, refused, classParts, slotParts, blankAt, fieldOf, recordBytes, readAll}
+use Rattle.model.specs.Records.{pick, Reading, read, refused, recordSize, classKind, slotKind, classParts, slotParts, blankAt, fieldOf, recordBytes, readAll}
 
 -- the fields of a C record: class number, doses in it, W, P
 pub record Class : Type 0 where
@@ -52,12 +52,12 @@ slotOf r = record {
 -- a record that is neither C nor S, or has a byte that must be zero and isn't: "plan bytes don't stand", 10
 unfoldable pub planRecordOf : List ℕ → ℕ → Reading PlanRecord
 planRecordOf r i =
-    pick (eqb (getD r 0 0) 0x43) (pick (blankAt classParts r 0) (read (classRecord (classOf r))) (refused 10 0))
-    (pick (eqb (getD r 0 0) 0x53) (pick (blankAt slotParts r 0) (read (slotRecord (slotOf r))) (refused 10 0)) (refused 10 0))
+    pick (eqb (getD r 0 0) classKind) (pick (blankAt classParts r 0) (read (classRecord (classOf r))) (refused 10 0))
+    (pick (eqb (getD r 0 0) slotKind) (pick (blankAt slotParts r 0) (read (slotRecord (slotOf r))) (refused 10 0)) (refused 10 0))
 
 -- all records of plan bytes
 unfoldable pub planRecords : List ℕ → Reading (List PlanRecord)
-planRecords bytes = pick (eqb (length bytes % 32) 0) (readAll planRecordOf bytes) (refused 10 0)
+planRecords bytes = pick (eqb (length bytes % recordSize) 0) (readAll planRecordOf bytes) (refused 10 0)
 
 -- the slots among them
 unfoldable pub slotsIn : List PlanRecord → List Slot
@@ -74,9 +74,9 @@ slotsRead (refused number place) = []
 
 -- the 32 bytes of a record of a plan
 unfoldable pub planRecordBytes : PlanRecord → List ℕ
-planRecordBytes (classRecord c) = recordBytes classParts (0x43 ∷ c .number ∷ c .doses ∷ c .grams ∷ c .time ∷ [])
+planRecordBytes (classRecord c) = recordBytes classParts (classKind ∷ c .number ∷ c .doses ∷ c .grams ∷ c .time ∷ [])
 planRecordBytes (slotRecord s) =
-    recordBytes slotParts (0x53 ∷ s .fan ∷ s .dose ∷ s .startTick ∷ s .startPart ∷ s .endTick ∷ s .endPart ∷ s .grams ∷ s .time ∷ s .class ∷ [])
+    recordBytes slotParts (slotKind ∷ s .fan ∷ s .dose ∷ s .startTick ∷ s .startPart ∷ s .endTick ∷ s .endPart ∷ s .grams ∷ s .time ∷ s .class ∷ [])
 
 -- the bytes of records in a row
 unfoldable pub recordsBytes : List PlanRecord → List ℕ

@@ -38,6 +38,26 @@ numberBytes (suc width) v = v % 256 ∷ numberBytes width (v / 256)
 
 -- ---- layouts
 
+-- "All records are 32 bytes"
+abbrev pub recordSize : ℕ
+recordSize = 32
+
+-- the kinds, byte 0 of every record: "F (0x46) fans"
+abbrev pub fansKind : ℕ
+fansKind = 0x46
+
+-- "D (0x44) dose"
+abbrev pub doseKind : ℕ
+doseKind = 0x44
+
+-- "C (0x43) class"
+abbrev pub classKind : ℕ
+classKind = 0x43
+
+-- "S (0x53) slot"
+abbrev pub slotKind : ℕ
+slotKind = 0x53
+
 -- a part of a record: a number of so many bytes, or so many bytes that are not named. "Bytes not named must be zero."
 pub data Part : Type 0 where
   field : ℕ → Part
@@ -87,7 +107,7 @@ recordBytes (blank width ∷ parts) values = replicate width 0 ++ recordBytes pa
 
 -- record i of the bytes
 abbrev pub recordAt : List ℕ → ℕ → List ℕ
-recordAt bytes i = take 32 (drop (32 * i) bytes)
+recordAt bytes i = take recordSize (drop (recordSize * i) bytes)
 
 -- n records from record i on, each read by `each` from its bytes and its index: the first refusal, or all
 unfoldable pub readFrom : {A : Type 0} → (List ℕ → ℕ → Reading A) → List ℕ → ℕ → ℕ → Reading (List A)
@@ -97,4 +117,4 @@ readFrom each bytes i (suc n) =
 
 -- all records of the bytes
 abbrev pub readAll : {A : Type 0} → (List ℕ → ℕ → Reading A) → List ℕ → Reading (List A)
-readAll each bytes = readFrom each bytes 0 (length bytes / 32)
+readAll each bytes = readFrom each bytes 0 (length bytes / recordSize)

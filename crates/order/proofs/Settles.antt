@@ -12,12 +12,13 @@ use Rattle.model.specs.Records.{pick, Reading, read, refused, andThen}
 use Rattle.model.specs.Orders.{fansEntry, doseEntry, noDose, fansIn, dosesIn, noClash, orderWith, orderIn, restOf, orderOf, readOrder}
 use Rattle.model.specs.Orders as orders
 use Rattle.order.specs.declared.Order.{Order}
-use Rattle.order.specs.declared.Fans.{Fans}
-use Rattle.order.specs.declared.Dose.{Dose}
+use Rattle.records.specs.declared.order_records.Fans.{Fans}
+use Rattle.records.specs.declared.order_records.Dose.{Dose}
 use Rattle.order.specs.declared.Gathered.{Gathered}
 use Rattle.order.specs.declared.Walked.{Walked}
 use Rattle.order.specs.declared.Reading as code
-use Rattle.order.specs.Held.{heldFans, heldDose, doseHeld, dosesFrom, dosesHeld, asOrder, column, heldOrder, noOrder, heldReading, asReading, ReadFrom}
+use Rattle.records.specs.Held.{heldFans, heldDose}
+use Rattle.order.specs.Held.{doseHeld, dosesFrom, dosesHeld, asOrder, column, heldOrder, noOrder, heldReading, asReading, ReadFrom}
 use Rattle.order.specs.Gathered.{noRecords, withDose, withPlace, withFans, withDoseAt, adding, walkedFrom, firstOf, clashesEarlier, firstClash, clashed, settled, refusedReading}
 use Rattle.order.proofs.Columns.{column-set, column-at, run-all}
 use Rattle.order.proofs.Cases.{picked, at-off, at-on}

@@ -13,8 +13,8 @@ use Rattle.model.specs.Orders as orders
 use Rattle.order.specs.Held.{heldEntry}
 use Rattle.order.specs.declared.Entry.{Entry}
 use Rattle.order.specs.declared.Entry.the-variants as is
-use Rattle.order.specs.declared.Fans.{Fans}
-use Rattle.order.specs.declared.Dose.{Dose}
+use Rattle.records.specs.declared.order_records.Fans.{Fans}
+use Rattle.records.specs.declared.order_records.Dose.{Dose}
 use Rattle.order.specs.declared.Refusal.{Refusal}
 use Rattle.order.specs.declared.Gathered.{Gathered}
 use Rattle.order.specs.declared.Walked.{Walked}

@@ -15,7 +15,7 @@ use Rattle.order.proofs.Cases.{picked}
 use Rattle.order.specs.declared.Entry.{Entry}
 use Rattle.order.specs.declared.Entry.the-variants as is
 use Rattle.order.specs.declared.Order.{Order}
-use Rattle.order.specs.declared.Dose.{Dose}
+use Rattle.records.specs.declared.order_records.Dose.{Dose}
 use Rattle.order.specs.declared.Gathered.{Gathered}
 use Rattle.order.specs.declared.Walked.{Walked}
 use Rattle.order.specs.Held.{heldFans, heldDose, heldEntry, heldOrder}

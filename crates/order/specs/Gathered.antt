@@ -8,9 +8,10 @@ use Rattle.model.specs.Records.{pick, read, refused, blankAt, fansParts, dosePa
 use Rattle.model.specs.Records as records
 use Rattle.model.specs.Orders.{fansEntry, doseEntry, fansOf, doseOf, fansFit, doseFits, checked, clash, restOf}
 use Rattle.model.specs.Orders as orders
-use Rattle.order.specs.Held.{heldFans, heldDose, heldEntry, doseHeld, asOrder, column, noOrder}
-use Rattle.order.specs.declared.Fans.{Fans}
-use Rattle.order.specs.declared.Dose.{Dose}
+use Rattle.records.specs.Held.{heldFans, heldDose}
+use Rattle.order.specs.Held.{heldEntry, doseHeld, asOrder, column, noOrder}
+use Rattle.records.specs.declared.order_records.Fans.{Fans}
+use Rattle.records.specs.declared.order_records.Dose.{Dose}
 use Rattle.order.specs.declared.Entry.{Entry}
 use Rattle.order.specs.declared.Entry.the-variants as is
 use Rattle.order.specs.declared.Order.{Order}

@@ -8,26 +8,13 @@ use Rattle.model.specs.Records.{pick, read, refused}
 use Rattle.model.specs.Records as records
 use Rattle.model.specs.Orders.{fansEntry, doseEntry, readOrder}
 use Rattle.model.specs.Orders as orders
-use Rattle.order.specs.declared.Fans.{Fans}
-use Rattle.order.specs.declared.Dose.{Dose}
+use Rattle.records.specs.Held.{heldFans, heldDose}
 use Rattle.order.specs.declared.Entry.{Entry}
 use Rattle.order.specs.declared.Entry.the-variants as is
 use Rattle.order.specs.declared.Order.{Order}
 use Rattle.order.specs.declared.Reading.{Reading}
 
 -- ---- one record
-
-abbrev pub asFans : Fans → orders.Fans
-asFans f = record { fans = f .fans; topGrams = f .«top_grams»; topSeconds = f .«top_seconds» }
-
-abbrev pub heldFans : orders.Fans → Fans
-heldFans f = record { fans = f .fans; «top_grams» = f .topGrams; «top_seconds» = f .topSeconds }
-
-abbrev pub asDose : Dose → orders.Dose
-asDose d = record { bay = d .bay; release = d .release; deadline = d .deadline; grams = d .grams }
-
-abbrev pub heldDose : orders.Dose → Dose
-heldDose d = record { bay = d .bay; release = d .release; deadline = d .deadline; grams = d .grams }
 
 -- the enum that holds a record's fields or its refusal
 unfoldable pub heldEntry : records.Reading orders.Entry → Entry

@@ -2,30 +2,18 @@
 mod record; // record.rt: one record
 
 use record::record_at;
+use records::Dose;
+use records::Fans;
 ghost use mathlib.Core.Path.{_≡_};
 ghost use Prim.Native.Nat.{_+_, _<_, _≤_};
 ghost use lib.ListN.{length};
 ghost use Rattle.model.specs.Records.{readAll};
 ghost use Rattle.model.specs.Orders.{entryOf, clash, restOf};
-ghost use Rattle.order.specs.Held.{asDose, asOrder, doseHeld, heldEntry, noOrder, ReadFrom};
+ghost use Rattle.records.specs.Held.{asDose};
+ghost use Rattle.order.specs.Held.{asOrder, doseHeld, heldEntry, noOrder, ReadFrom};
 ghost use Rattle.order.specs.Gathered.{noRecords, withDose, withPlace, withFans, withDoseAt};
 ghost use Rattle.order.specs.Gathered.{taken, takenOther, takenRefused, walkedFrom};
 ghost use Rattle.order.specs.Gathered.{earlierClash, firstClash, settled, refusedReading};
-
-// "number of fans, 1 to 8; top grams, top seconds, each 1 to 1,000,000"
-pub struct Fans {
-    pub fans: u32,
-    pub top_grams: u32,
-    pub top_seconds: u32,
-}
-
-// "bay, 1 to 999; release, 0 to 604,799; deadline, release+1 to 604,800; grams, 1 to 1,000,000"
-pub struct Dose {
-    pub bay: u32,
-    pub release: u32,
-    pub deadline: u32,
-    pub grams: u32,
-}
 
 pub struct Refusal {
     pub number: u32,

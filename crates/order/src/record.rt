@@ -1,13 +1,21 @@
 // One record from its 32 bytes (document 01, "Records" and refusals 3, 4, 5).
-use crate::Dose;
 use crate::Entry;
-use crate::Fans;
 use crate::Refusal;
+use records::DOSE_KIND;
+use records::Dose;
+use records::FANS_KIND;
+use records::Fans;
+use records::dose_blank;
+use records::dose_in;
+use records::fans_blank;
+use records::fans_in;
+use records::kind_of;
 ghost use mathlib.Core.Path.{_≡_};
 ghost use lib.ListN.{length};
-ghost use Rattle.model.specs.Records.{within, blankAt, fansParts, doseParts};
-ghost use Rattle.model.specs.Orders.{fansFit, doseFits, fansOf, doseOf, entryOf};
-ghost use Rattle.order.specs.Held.{asFans, asDose, heldFans, heldDose, heldEntry};
+ghost use Rattle.model.specs.Records.{within, recordSize};
+ghost use Rattle.model.specs.Orders.{fansFit, doseFits, entryOf};
+ghost use Rattle.records.specs.Held.{asFans, asDose};
+ghost use Rattle.order.specs.Held.{heldEntry};
 ghost use Rattle.order.specs.Gathered.{faultOf, fansEntered, doseEntered};
 
 fn inside(lo: u32, hi: u32, v: u32) -> bool
@@ -44,49 +52,6 @@ fn dose_fits(d: Dose) -> bool
     inside(1, 1000000, d.grams)
 }
 
-fn fans_blank(r: &[u8]) -> bool
-    requires { ⌜ length (now r) ≡ 32 ⌝ }
-    ensures { λ t. ⌜ t ≡ blankAt fansParts (now (r .entry)) 0 ⌝ }
-{
-    if !field::blank(r, 2, 2) {
-        return false;
-    }
-    field::blank(r, 12, 20)
-}
-
-fn dose_blank(r: &[u8]) -> bool
-    requires { ⌜ length (now r) ≡ 32 ⌝ }
-    ensures { λ t. ⌜ t ≡ blankAt doseParts (now (r .entry)) 0 ⌝ }
-{
-    if !field::blank(r, 1, 1) {
-        return false;
-    }
-    field::blank(r, 16, 16)
-}
-
-fn fans_in(r: &[u8]) -> Fans
-    requires { ⌜ length (now r) ≡ 32 ⌝ }
-    ensures { λ f. ⌜ f ≡ heldFans (fansOf (now (r .entry))) ⌝ }
-{
-    Fans {
-        fans: field::read8(r, 1),
-        top_grams: field::read32(r, 4),
-        top_seconds: field::read32(r, 8),
-    }
-}
-
-fn dose_in(r: &[u8]) -> Dose
-    requires { ⌜ length (now r) ≡ 32 ⌝ }
-    ensures { λ d. ⌜ d ≡ heldDose (doseOf (now (r .entry))) ⌝ }
-{
-    Dose {
-        bay: field::read16(r, 2),
-        release: field::read32(r, 4),
-        deadline: field::read32(r, 8),
-        grams: field::read32(r, 12),
-    }
-}
-
 // "4 a byte that must be zero isn't", then "5 a field out of range"; 0 where neither is.
 fn fault(blank: bool, fits: bool) -> u32
     ensures { λ n. ⌜ n ≡ faultOf blank fits ⌝ }
@@ -101,7 +66,7 @@ fn fault(blank: bool, fits: bool) -> u32
 }
 
 fn fans_entry(r: &[u8], k: usize) -> Entry
-    requires { ⌜ length (now r) ≡ 32 ⌝ }
+    requires { ⌜ length (now r) ≡ recordSize ⌝ }
     ensures { λ e. ⌜ e ≡ fansEntered (now (r .entry)) k ⌝ }
 {
     let f = fans_in(r);
@@ -116,7 +81,7 @@ fn fans_entry(r: &[u8], k: usize) -> Entry
 }
 
 fn dose_entry(r: &[u8], k: usize) -> Entry
-    requires { ⌜ length (now r) ≡ 32 ⌝ }
+    requires { ⌜ length (now r) ≡ recordSize ⌝ }
     ensures { λ e. ⌜ e ≡ doseEntered (now (r .entry)) k ⌝ }
 {
     let d = dose_in(r);
@@ -132,14 +97,14 @@ fn dose_entry(r: &[u8], k: usize) -> Entry
 
 // Record k from its 32 bytes: "record by record 3, 4, 5 in that order".
 pub fn record_at(r: &[u8], k: usize) -> Entry
-    requires { ⌜ length (now r) ≡ 32 ⌝ }
+    requires { ⌜ length (now r) ≡ recordSize ⌝ }
     ensures { λ e. ⌜ e ≡ heldEntry (entryOf (now (r .entry)) k) ⌝ }
 {
-    let kind = r[0];
-    if kind == 0x46 {
+    let kind = kind_of(r);
+    if kind == FANS_KIND {
         return fans_entry(r, k);
     }
-    if kind == 0x44 {
+    if kind == DOSE_KIND {
         return dose_entry(r, k);
     }
     Entry::Refused(Refusal {

@@ -83,20 +83,20 @@ fn show_front(bytes: &[u8], len: usize) {
 fn put_fans(b: &mut [u8], at: usize, fans: u32, grams: u32, seconds: u32)
     requires { ⌜ (at ≤ 4096) × (at + 32 ≤ length (now b)) ⌝ }
 {
-    field::put8(b, at, 70);
-    field::put8(b, at + 1, fans);
-    field::put32(b, at + 4, grams);
-    field::put32(b, at + 8, seconds);
+    records::number::put8(b, at, 70);
+    records::number::put8(b, at + 1, fans);
+    records::number::put32(b, at + 4, grams);
+    records::number::put32(b, at + 8, seconds);
 }
 
 fn put_dose(b: &mut [u8], at: usize, bay: u32, release: u32, deadline: u32, grams: u32)
     requires { ⌜ (at ≤ 4096) × (at + 32 ≤ length (now b)) ⌝ }
 {
-    field::put8(b, at, 68);
-    field::put16(b, at + 2, bay);
-    field::put32(b, at + 4, release);
-    field::put32(b, at + 8, deadline);
-    field::put32(b, at + 12, grams);
+    records::number::put8(b, at, 68);
+    records::number::put16(b, at + 2, bay);
+    records::number::put32(b, at + 4, release);
+    records::number::put32(b, at + 8, deadline);
+    records::number::put32(b, at + 12, grams);
 }
 
 fn one_fans(fans: u32, grams: u32, seconds: u32) {

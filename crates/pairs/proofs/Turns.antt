@@ -9,7 +9,8 @@ use lib.ListN.{getD, length}
 use Rattle.model.specs.Plans.{Slot}
 use Rattle.model.specs.Stands.{EndsBy}
 use Rattle.model.proofs.Fractions.{compare≤}
-use Rattle.clauses.specs.Tests.{Apart, ApartAfter, InTurn, Ready, by-fan, by-interval, by-time, placeIn, scan, slotIn}
+use Rattle.records.specs.Plan.{slotIn}
+use Rattle.clauses.specs.Tests.{Apart, ApartAfter, InTurn, Ready, by-fan, by-interval, by-time, placeIn, scan}
 use Rattle.slots.proofs.Places.{scan-none, scan-on, scan-stop}
 
 module _ {instants : List ℕ} {intervals : ℕ} {s u : Slot} where

@@ -1,13 +1,16 @@
 // Two slots: "slots by interval, fan, start"; "no two slots of one fan overlap; no two slots of one dose overlap".
-use clauses::records::slot_at;
-use plan_records::Slot;
+use records::RECORD_SIZE;
+use records::Slot;
+use records::slot_at;
 use slots::place_of;
 use steps::product;
 ghost use Prim.Native.Nat.{ℕ, _+_, _/_, _<_, _≤_};
 ghost use lib.ListN.{length};
+ghost use Rattle.model.specs.Records.{recordSize};
 ghost use Rattle.model.specs.Stands.{EndsBy};
-ghost use Rattle.plan_records.specs.Held.{asSlot};
-ghost use Rattle.clauses.specs.Tests.{Tells, SlotLong, InTurn, Ready, Apart, ApartAfter, slotIn};
+ghost use Rattle.records.specs.Held.{asSlot};
+ghost use Rattle.records.specs.Plan.{slotIn};
+ghost use Rattle.clauses.specs.Tests.{Tells, SlotLong, InTurn, Ready, Apart, ApartAfter};
 
 // s ends at or before the moment at which u starts: ticks first, then products of parts, which fit 64 bits.
 fn ends_by(s: Slot, u: Slot) -> bool
@@ -47,10 +50,10 @@ fn in_turn(s: Slot, u: Slot, instants: &[u32; 48], intervals: usize) -> bool
 
 // "The order of slots counts".
 pub fn all_in_turn(plan: &[u8], p: usize, instants: &[u32; 48], intervals: usize) -> bool
-    requires { ⌜ (intervals ≤ 47) × (p ≤ length (now plan) / 32) × ((i : ℕ) → i < length (now plan) / 32 → p ≤ i → SlotLong (slotIn (now plan) i)) ⌝ }
-    ensures { λ t. ⌜ Tells t ((i : ℕ) → i + 1 < length (now (plan .entry)) / 32 → p ≤ i → InTurn (now (instants .entry)) intervals (slotIn (now (plan .entry)) i) (slotIn (now (plan .entry)) (i + 1))) ⌝ }
+    requires { ⌜ (intervals ≤ 47) × (p ≤ length (now plan) / recordSize) × ((i : ℕ) → i < length (now plan) / recordSize → p ≤ i → SlotLong (slotIn (now plan) i)) ⌝ }
+    ensures { λ t. ⌜ Tells t ((i : ℕ) → i + 1 < length (now (plan .entry)) / recordSize → p ≤ i → InTurn (now (instants .entry)) intervals (slotIn (now (plan .entry)) i) (slotIn (now (plan .entry)) (i + 1))) ⌝ }
 {
-    let m = plan.len() / 32;
+    let m = plan.len() / RECORD_SIZE;
     let mut i = p;
     while i + 1 < m {
         let s = slot_at(plan, i);
@@ -79,10 +82,10 @@ fn apart(s: Slot, u: Slot) -> bool
 
 // Slot i against the later ones of its interval: those of later intervals are apart.
 fn clear_after(plan: &[u8], p: usize, i: usize, instants: &[u32; 48], intervals: usize) -> bool
-    requires { ⌜ (intervals ≤ 47) × (p ≤ i) × (i < length (now plan) / 32) × Ready (now instants) intervals (now plan) p ⌝ }
-    ensures { λ t. ⌜ Tells t (ApartAfter (now (instants .entry)) intervals (now (plan .entry)) i (length (now (plan .entry)) / 32)) ⌝ }
+    requires { ⌜ (intervals ≤ 47) × (p ≤ i) × (i < length (now plan) / recordSize) × Ready (now instants) intervals (now plan) p ⌝ }
+    ensures { λ t. ⌜ Tells t (ApartAfter (now (instants .entry)) intervals (now (plan .entry)) i (length (now (plan .entry)) / recordSize)) ⌝ }
 {
-    let m = plan.len() / 32;
+    let m = plan.len() / RECORD_SIZE;
     let s = slot_at(plan, i);
     let j = place_of(instants, intervals, s.start_tick);
     let end = instants[j + 1];
@@ -103,9 +106,9 @@ fn clear_after(plan: &[u8], p: usize, i: usize, instants: &[u32; 48], intervals:
 // "no two slots of one dose overlap".
 pub fn all_clear(plan: &[u8], p: usize, instants: &[u32; 48], intervals: usize) -> bool
     requires { ⌜ (intervals ≤ 47) × Ready (now instants) intervals (now plan) p ⌝ }
-    ensures { λ t. ⌜ Tells t ((i : ℕ) → i < length (now (plan .entry)) / 32 → p ≤ i → ApartAfter (now (instants .entry)) intervals (now (plan .entry)) i (length (now (plan .entry)) / 32)) ⌝ }
+    ensures { λ t. ⌜ Tells t ((i : ℕ) → i < length (now (plan .entry)) / recordSize → p ≤ i → ApartAfter (now (instants .entry)) intervals (now (plan .entry)) i (length (now (plan .entry)) / recordSize)) ⌝ }
 {
-    let m = plan.len() / 32;
+    let m = plan.len() / RECORD_SIZE;
     let mut i = p;
     while i < m {
         if !clear_after(plan, p, i, instants, intervals) {

@@ -6,8 +6,8 @@ use native.Mathlib.Nat.{zero-add}
 use native.Mathlib.Omega.{arith}
 use lib.ListN.{drop, length, length-map}
 use lib.Seq.{sets-eq}
-use Rattle.field.specs.Written.{written}
-use Rattle.field.proofs.Laws.{join}
+use Rattle.records.specs.Written.{written}
+use Rattle.records.proofs.Laws.{join}
 use Rattle.model.specs.Lists.{gather}
 use Rattle.model.specs.Plans.{Class, Slot, classRecord, planOf, planRecordBytes, recordsBytes, slotRecord}
 use Rattle.model.specs.Answers.{overwritten}

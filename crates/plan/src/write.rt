@@ -1,14 +1,16 @@
 // The records of a plan in the lent buffer: "classes by number, then slots by interval, fan, start".
 use layout::Tables;
-use plan_records::Class;
+use records::Class;
+use records::RECORD_SIZE;
 ghost use mathlib.Core.Path.{_≡_};
 ghost use Prim.Native.Nat.{_+_, _*_, _<_, _≤_};
 ghost use lib.ListN.{length};
+ghost use Rattle.model.specs.Records.{recordSize};
 ghost use Rattle.model.specs.Sets.{on, weight};
 ghost use Rattle.model.specs.Plans.{classRecord};
 ghost use Rattle.model.specs.Layout.{tableSlots};
 ghost use Rattle.model.specs.Answers.{overwritten};
-ghost use Rattle.plan_records.specs.Held.{asClass};
+ghost use Rattle.records.specs.Held.{asClass};
 ghost use Rattle.layout.specs.Held.{tableFrom};
 ghost use Rattle.layout.specs.Laying.{Filled, Wrote};
 ghost use Rattle.plan.specs.Held.{membersFrom, classFrom, classesFrom, bytesFrom};
@@ -49,12 +51,12 @@ fn class_at(t: Tables, i: usize) -> Class
 
 // The C records, from the buffer's first byte on. Gives back the next record's index.
 fn put_classes(b: &mut [u8], t: Tables) -> usize
-    requires { ⌜ (t .doses ≤ 24) × (t .classes ≤ 24) × (32 * t .classes ≤ length (now b)) ⌝ }
+    requires { ⌜ (t .doses ≤ 24) × (t .classes ≤ 24) × (recordSize * t .classes ≤ length (now b)) ⌝ }
     ensures { λ q. ⌜ Wrote classRecord (classesFrom t) (now (b .entry)) 0 (now (b .exit)) q ⌝ }
 {
     let mut i = 0;
     while i < t.classes {
-        plan_records::put_class(b, 32 * i, class_at(t, i));
+        records::put_class(b, RECORD_SIZE * i, class_at(t, i));
         i += 1;
     }
     i
@@ -62,7 +64,7 @@ fn put_classes(b: &mut [u8], t: Tables) -> usize
 
 // The whole plan of the arrays, in front of the rest of the buffer. Gives back how many slots it has.
 pub fn write_plan(b: &mut [u8], t: Tables, shares: &[u64], reserved: &[[u8; 47]; 24]) -> usize
-    requires { ⌜ Filled t (now shares) (now reserved) × (32 * (t .classes + length (tableSlots (tableFrom t (now shares) (now reserved)))) ≤ length (now b)) ⌝ }
+    requires { ⌜ Filled t (now shares) (now reserved) × (recordSize * (t .classes + length (tableSlots (tableFrom t (now shares) (now reserved)))) ≤ length (now b)) ⌝ }
     ensures slots { λ r. ⌜ r ≡ length (tableSlots (tableFrom t (now (shares .entry)) (now (reserved .entry)))) ⌝ }
     ensures bytes { λ _. ⌜ now (b .exit) ≡ overwritten (now (b .entry)) (bytesFrom t (now (shares .entry)) (now (reserved .entry))) ⌝ }
 {

@@ -21,49 +21,49 @@ fn number(n: u32) {
 fn put_fans(b: &mut [u8], at: usize, fans: u32)
     requires { ⌜ (at ≤ 4096) × (at + 32 ≤ length (now b)) ⌝ }
 {
-    field::put8(b, at, 0x46);
-    field::put8(b, at + 1, fans);
-    field::put32(b, at + 4, 1000);
-    field::put32(b, at + 8, 1);
+    records::number::put8(b, at, 0x46);
+    records::number::put8(b, at + 1, fans);
+    records::number::put32(b, at + 4, 1000);
+    records::number::put32(b, at + 8, 1);
 }
 
 fn put_dose(b: &mut [u8], at: usize, bay: u32, deadline: u32, grams: u32)
     requires { ⌜ (at ≤ 4096) × (at + 32 ≤ length (now b)) ⌝ }
 {
-    field::put8(b, at, 0x44);
-    field::put16(b, at + 2, bay);
-    field::put32(b, at + 8, deadline);
-    field::put32(b, at + 12, grams);
+    records::number::put8(b, at, 0x44);
+    records::number::put16(b, at + 2, bay);
+    records::number::put32(b, at + 8, deadline);
+    records::number::put32(b, at + 12, grams);
 }
 
 fn put_class(b: &mut [u8], at: usize, class: u32, doses: u32, w: u32, p: u32)
     requires { ⌜ (at ≤ 4096) × (at + 32 ≤ length (now b)) ⌝ }
 {
-    field::put8(b, at, 0x43);
-    field::put8(b, at + 1, class);
-    field::put16(b, at + 2, doses);
-    field::put32(b, at + 4, w);
-    field::put32(b, at + 8, p);
+    records::number::put8(b, at, 0x43);
+    records::number::put8(b, at + 1, class);
+    records::number::put16(b, at + 2, doses);
+    records::number::put32(b, at + 4, w);
+    records::number::put32(b, at + 8, p);
 }
 
 // A slot from one tick to another.
 fn put_slot(b: &mut [u8], at: usize, fan: u32, dose: u32, start: u32, end: u32)
     requires { ⌜ (at ≤ 4096) × (at + 32 ≤ length (now b)) ⌝ }
 {
-    field::put8(b, at, 0x53);
-    field::put8(b, at + 1, fan);
-    field::put16(b, at + 2, dose);
-    field::put32(b, at + 4, start);
-    field::put32(b, at + 12, end);
+    records::number::put8(b, at, 0x53);
+    records::number::put8(b, at + 1, fan);
+    records::number::put16(b, at + 2, dose);
+    records::number::put32(b, at + 4, start);
+    records::number::put32(b, at + 12, end);
 }
 
 // The class that a slot names.
 fn put_rate(b: &mut [u8], at: usize, w: u32, p: u32, class: u32)
     requires { ⌜ (at ≤ 4096) × (at + 32 ≤ length (now b)) ⌝ }
 {
-    field::put32(b, at + 20, w);
-    field::put32(b, at + 24, p);
-    field::put8(b, at + 28, class);
+    records::number::put32(b, at + 20, w);
+    records::number::put32(b, at + 24, p);
+    records::number::put8(b, at + 28, class);
 }
 
 fn show_state(s: State) {

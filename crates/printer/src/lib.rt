@@ -6,6 +6,7 @@ use plan::Planned;
 ghost use mathlib.Core.Path.{_≡_};
 ghost use Prim.Native.Nat.{_+_, _*_, _≤_};
 ghost use lib.ListN.{length};
+ghost use Rattle.model.specs.Records.{recordSize};
 ghost use Rattle.io.specs.Counts.{Counts};
 ghost use Rattle.lines.specs.Text.{Put};
 ghost use Rattle.plan.specs.Answered.{asPlanned};
@@ -67,7 +68,7 @@ fn read_order(order: &mut [u8]) -> Input
 
 // The text of a planning's answer, from the text buffer's first byte on. Gives back its length.
 fn put_answer(p: Planned, plan: &[u8], text: &mut [u8]) -> usize
-    requires { ⌜ (32 * (p .classes + p .slots) ≤ length (now plan)) × (160 * (p .classes + p .slots + 1) ≤ length (now text)) ⌝ }
+    requires { ⌜ (recordSize * (p .classes + p .slots) ≤ length (now plan)) × (160 * (p .classes + p .slots + 1) ≤ length (now text)) ⌝ }
     ensures { λ r. ⌜ Put (answerText (asPlanned p) (now (plan .entry))) (now (text .entry)) 0 (now (text .exit)) r ⌝ }
 {
     if p.number != 0 {

@@ -1,6 +1,6 @@
 // W and P of the sets that the slots name, by the rule (document 01, "From doses to classes"), against the C records.
-use clauses::records::class_at;
-use plan_records::Class;
+use records::Class;
+use records::class_at;
 use steps::both;
 use steps::index;
 use steps::less;
@@ -13,10 +13,12 @@ ghost use mathlib.Core.Bool.{_&&_};
 ghost use Prim.Native.Nat.{ℕ, _+_, _-_, _*_, _/_, _<_, _≤_};
 ghost use lib.Dec.{leb};
 ghost use lib.ListN.{length, getD};
+ghost use Rattle.model.specs.Records.{recordSize};
 ghost use Rattle.model.specs.Sets.{sum, weight};
 ghost use Rattle.model.specs.Sets as sets;
-ghost use Rattle.plan_records.specs.Held.{asClass};
-ghost use Rattle.clauses.specs.Tests.{Tells, ClassFits, Falls, setsOf, classIn, sheet, Says, Opens};
+ghost use Rattle.records.specs.Held.{asClass};
+ghost use Rattle.records.specs.Plan.{classIn};
+ghost use Rattle.clauses.specs.Tests.{Tells, ClassFits, Falls, setsOf, sheet, Says, Opens};
 
 // How many doses class i has.
 fn size_in(numbers: &[u32; 24], doses: usize, i: usize) -> u64
@@ -178,7 +180,7 @@ pub fn classes_fit(
     intervals: usize,
     fans: u32,
 ) -> bool
-    requires { ⌜ (p ≤ length (now plan) / 32) × (p ≤ 24) × (doses ≤ 24) × (intervals ≤ 47) ⌝ }
+    requires { ⌜ (p ≤ length (now plan) / recordSize) × (p ≤ 24) × (doses ≤ 24) × (intervals ≤ 47) ⌝ }
     ensures { λ t. ⌜ Tells t ((i : ℕ) → i < p → ClassFits (sheet doses intervals fans (now (release .entry)) (now (deadline .entry)) (now (grams .entry)) (now (instants .entry))) (now (numbers .entry)) i (classIn (now (plan .entry)) i)) ⌝ }
 {
     let all = fans as u64;
@@ -223,7 +225,7 @@ fn falls(c: Class, d: Class) -> bool
 
 // "Class rates fall strictly from class to class."
 pub fn rates_fall(plan: &[u8], p: usize) -> bool
-    requires { ⌜ p ≤ length (now plan) / 32 ⌝ }
+    requires { ⌜ p ≤ length (now plan) / recordSize ⌝ }
     ensures { λ t. ⌜ Tells t ((i : ℕ) → i + 1 < p → Falls (classIn (now (plan .entry)) i) (classIn (now (plan .entry)) (i + 1))) ⌝ }
 {
     let mut i = 0;

@@ -1,29 +1,21 @@
 // The clauses of one slot (document 01, "A plan stands").
-use clauses::records::class_at;
-use clauses::records::slot_at;
-use plan_records::Class;
-use plan_records::Slot;
-use plan_records::moment;
+use records::Class;
+use records::RECORD_SIZE;
+use records::Slot;
+use records::class_at;
+use records::ends;
+use records::moment;
+use records::slot_at;
+use records::starts;
 use steps::index;
 ghost use mathlib.Core.Path.{_≡_};
 ghost use Prim.Native.Nat.{ℕ, _/_, _<_, _≤_};
 ghost use lib.ListN.{length, getD};
-ghost use Rattle.model.specs.Stands as stands;
+ghost use Rattle.model.specs.Records.{recordSize};
 ghost use Rattle.model.specs.Stands.{Between};
-ghost use Rattle.plan_records.specs.Held.{asClass, asSlot};
-ghost use Rattle.clauses.specs.Tests.{Tells, SlotNames, SlotLong, SlotFits, InPlace, placeOf, slotIn, sheet};
-
-pub fn starts(s: Slot) -> u64
-    ensures { λ r. ⌜ r ≡ stands.starts (asSlot s) ⌝ }
-{
-    moment(s.start_tick, s.start_part, s.grams)
-}
-
-pub fn ends(s: Slot) -> u64
-    ensures { λ r. ⌜ r ≡ stands.ends (asSlot s) ⌝ }
-{
-    moment(s.end_tick, s.end_part, s.grams)
-}
+ghost use Rattle.records.specs.Held.{asClass, asSlot};
+ghost use Rattle.records.specs.Plan.{slotIn};
+ghost use Rattle.clauses.specs.Tests.{Tells, SlotNames, SlotLong, SlotFits, InPlace, placeOf, sheet};
 
 // "that class's W and P, an existing fan".
 fn slot_names(s: Slot, fans: u32, number: u32, c: Class) -> bool
@@ -105,7 +97,7 @@ fn slot_fits(
     intervals: usize,
     fans: u32,
 ) -> bool
-    requires { ⌜ (doses ≤ 24) × (intervals ≤ 47) × ((k : ℕ) → k < doses → (1 ≤ getD (now numbers) k 0) × (getD (now numbers) k 0 ≤ length (now plan) / 32)) ⌝ }
+    requires { ⌜ (doses ≤ 24) × (intervals ≤ 47) × ((k : ℕ) → k < doses → (1 ≤ getD (now numbers) k 0) × (getD (now numbers) k 0 ≤ length (now plan) / recordSize)) ⌝ }
     ensures { λ t. ⌜ Tells t (SlotFits (sheet doses intervals fans (now (release .entry)) (now (deadline .entry)) (now (grams .entry)) (now (instants .entry))) (now (plan .entry)) (now (numbers .entry)) (asSlot s)) ⌝ }
 {
     let k = s.dose as usize;
@@ -139,10 +131,10 @@ pub fn slots_fit(
     intervals: usize,
     fans: u32,
 ) -> bool
-    requires { ⌜ (doses ≤ 24) × (intervals ≤ 47) × ((k : ℕ) → k < doses → (1 ≤ getD (now numbers) k 0) × (getD (now numbers) k 0 ≤ length (now plan) / 32)) ⌝ }
-    ensures { λ t. ⌜ Tells t ((i : ℕ) → i < length (now (plan .entry)) / 32 → p ≤ i → SlotFits (sheet doses intervals fans (now (release .entry)) (now (deadline .entry)) (now (grams .entry)) (now (instants .entry))) (now (plan .entry)) (now (numbers .entry)) (slotIn (now (plan .entry)) i)) ⌝ }
+    requires { ⌜ (doses ≤ 24) × (intervals ≤ 47) × ((k : ℕ) → k < doses → (1 ≤ getD (now numbers) k 0) × (getD (now numbers) k 0 ≤ length (now plan) / recordSize)) ⌝ }
+    ensures { λ t. ⌜ Tells t ((i : ℕ) → i < length (now (plan .entry)) / recordSize → p ≤ i → SlotFits (sheet doses intervals fans (now (release .entry)) (now (deadline .entry)) (now (grams .entry)) (now (instants .entry))) (now (plan .entry)) (now (numbers .entry)) (slotIn (now (plan .entry)) i)) ⌝ }
 {
-    let m = plan.len() / 32;
+    let m = plan.len() / RECORD_SIZE;
     let mut i = p;
     while i < m {
         let s = slot_at(plan, i);

@@ -13,7 +13,8 @@ use Rattle.model.specs.Plans.{Slot}
 use Rattle.model.specs.Stands.{ends, starts, unitsOf}
 use Rattle.model.proofs.Sums.{sum-up}
 use Rattle.model.proofs.Fractions.{compare≤}
-use Rattle.clauses.specs.Tests.{Counts, needIn, slotIn, unitsUpTo}
+use Rattle.records.specs.Plan.{slotIn}
+use Rattle.clauses.specs.Tests.{Counts, needIn, unitsUpTo}
 
 module _ (plan : List ℕ) (p : ℕ) where
   units-none : (k : ℕ) → unitsUpTo plan p p k ≡ 0

@@ -1,14 +1,17 @@
 // "each dose's slots total w × P units".
-use clauses::records::class_at;
-use clauses::records::slot_at;
-use slots::ends;
-use slots::starts;
+use records::RECORD_SIZE;
+use records::class_at;
+use records::ends;
+use records::slot_at;
+use records::starts;
 use steps::index;
 use steps::product;
 ghost use mathlib.Core.Path.{_≡_};
 ghost use Prim.Native.Nat.{ℕ, _/_, _<_, _≤_};
 ghost use lib.ListN.{length, getD};
-ghost use Rattle.clauses.specs.Tests.{Tells, Counts, slotIn, unitsUpTo, needIn};
+ghost use Rattle.model.specs.Records.{recordSize};
+ghost use Rattle.records.specs.Plan.{slotIn};
+ghost use Rattle.clauses.specs.Tests.{Tells, Counts, unitsUpTo, needIn};
 
 // The sums are what the doses need.
 fn all_met(
@@ -18,7 +21,7 @@ fn all_met(
     grams: &[u32; 24],
     doses: usize,
 ) -> bool
-    requires { ⌜ (doses ≤ 24) × ((k : ℕ) → k < doses → (1 ≤ getD (now numbers) k 0) × (getD (now numbers) k 0 ≤ length (now plan) / 32)) ⌝ }
+    requires { ⌜ (doses ≤ 24) × ((k : ℕ) → k < doses → (1 ≤ getD (now numbers) k 0) × (getD (now numbers) k 0 ≤ length (now plan) / recordSize)) ⌝ }
     ensures { λ t. ⌜ Tells t ((k : ℕ) → k < doses → getD sums k 0 ≡ needIn (now (grams .entry)) (now (plan .entry)) (now (numbers .entry)) k) ⌝ }
 {
     let mut k = 0;
@@ -43,10 +46,10 @@ pub fn units_met(
     grams: &[u32; 24],
     doses: usize,
 ) -> bool
-    requires { ⌜ (doses ≤ 24) × (p ≤ length (now plan) / 32) × ((k : ℕ) → k < doses → (1 ≤ getD (now numbers) k 0) × (getD (now numbers) k 0 ≤ length (now plan) / 32)) × ((i : ℕ) → i < length (now plan) / 32 → p ≤ i → Counts doses (now plan) (now numbers) (slotIn (now plan) i)) ⌝ }
-    ensures { λ t. ⌜ Tells t ((k : ℕ) → k < doses → unitsUpTo (now (plan .entry)) p (length (now (plan .entry)) / 32) k ≡ needIn (now (grams .entry)) (now (plan .entry)) (now (numbers .entry)) k) ⌝ }
+    requires { ⌜ (doses ≤ 24) × (p ≤ length (now plan) / recordSize) × ((k : ℕ) → k < doses → (1 ≤ getD (now numbers) k 0) × (getD (now numbers) k 0 ≤ length (now plan) / recordSize)) × ((i : ℕ) → i < length (now plan) / recordSize → p ≤ i → Counts doses (now plan) (now numbers) (slotIn (now plan) i)) ⌝ }
+    ensures { λ t. ⌜ Tells t ((k : ℕ) → k < doses → unitsUpTo (now (plan .entry)) p (length (now (plan .entry)) / recordSize) k ≡ needIn (now (grams .entry)) (now (plan .entry)) (now (numbers .entry)) k) ⌝ }
 {
-    let m = plan.len() / 32;
+    let m = plan.len() / RECORD_SIZE;
     let mut sums = [0u64; 24];
     let mut i = p;
     while i < m {

@@ -1,60 +1,56 @@
 -- `units_before` meets its contract: the sum so far and the units of the records left make the units of all (Walks).
-use Rattle.field.proofs.Records.{part-length}
-use Rattle.draw.proofs.Walks.{unitsLeft, units-fit, units-again, units-end}
 use Prim.Native.Nat.{_+_, _-_, _/_, _≤_}
-use mathlib.Core.Path.{_≡_, refl}
+use mathlib.Core.Path.{_≡_}
 use native.Mathlib.Nat.{sub-zero}
 use native.Mathlib.Omega.{arith}
-use borrow.Author.Needs.{needs}
 use lib.ListN.{length}
+use Rattle.model.specs.Records.{recordSize}
+use Rattle.draw.proofs.Walks.{unitsLeft, units-fit, units-again, units-end}
+use borrow.Author.Needs.{needs}
 use Rattle.draw.proofs.units_before.Statement.{statement}
 use Rattle.draw.proofs.units_before.Tie as tie
 
 abbrev Inv-loop : tie.InvT-loop
-Inv-loop plan dose tick n sum₀ k₀ sum k = (k ≤ n) × (n ≡ length plan / 32) × (sum + unitsLeft plan dose tick k (n - k) ≡ unitsLeft plan dose tick 0 n)
+Inv-loop plan dose tick n sum₀ k₀ sum k =
+    (k ≤ n) × (n ≡ length plan / recordSize) × (sum + unitsLeft plan dose tick k (n - k) ≡ unitsLeft plan dose tick 0 (length plan / recordSize))
 
 abbrev μ-loop : tie.MeasureT-loop
 μ-loop plan dose tick n sum₀ k₀ sum k = n - k
 
+record-count-requires : tie.Need-record-count-requires Inv-loop μ-loop
+record-count-requires c κs = search needs
+
 loop-holds : tie.Need-loop-holds Inv-loop μ-loop
-loop-holds c = (omega arith, refl, rw sub-zero (omega arith))
+loop-holds c = (omega arith, c .record-count .ensures, rw (sub-zero, c .record-count .ensures) (omega arith))
 
-mul-a : tie.Need-mul-a Inv-loop μ-loop
-mul-a c = search needs
-
-add-e : tie.Need-add-e Inv-loop μ-loop
-add-e c = search needs
-
-sub-units-in : tie.Need-sub-units-in Inv-loop μ-loop
-sub-units-in c = search needs
-
-part-units-in-start : tie.Need-part-units-in-start Inv-loop μ-loop
-part-units-in-start c = search needs
-
-part-units-in-end : tie.Need-part-units-in-end Inv-loop μ-loop
-part-units-in-end c = search needs
-
-units-in-requires : tie.Need-units-in-requires Inv-loop μ-loop
-units-in-requires c κs = part-length (c .before .before .before .before .args .plan .now) (c .before .before .loop .k) (omega arith)
+units-at-requires : tie.Need-units-at-requires Inv-loop μ-loop
+units-at-requires c κs = omega arith
 
 add-sum : tie.Need-add-sum Inv-loop μ-loop
-add-sum c = omega (arith, c .units-in .ensures, units-fit (c .before .before .before .before .before .args .plan .now) (c .before .before .before .before .before .args .dose) (c .before .before .before .before .before .pre) (c .before .before .before .loop .k) (length (c .before .before .before .before .before .args .plan .now) / 32 - c .before .before .before .loop .k) (c .before .before .before .before .before .args .tick) (c .before .before .before .loop .sum) (c .before .before .before .loop .inv .2) (omega arith))
+add-sum c =
+    let A = c .before .before .before .before .before in
+    let L = c .before .before .loop in
+    omega (arith, c .units-at .ensures, units-fit (A .args .plan .now) (A .args .dose) (A .pre) (A .args .tick) (L .k) _ (L .sum) (L .inv .2) (omega arith))
 
 add-k : tie.Need-add-k Inv-loop μ-loop
-add-k c = search needs
+add-k c = omega arith
 
 loop-less : tie.Need-loop-less Inv-loop μ-loop
-loop-less c = search needs
+loop-less c = omega arith
 
 loop-again : tie.Need-loop-again Inv-loop μ-loop
 loop-again c =
-    let b = c .before .before .before .before .before .args .plan .now in
-    let L = c .before .before .before .loop in
-    let m : length b / 32 - (L .k + 1) ≡ length b / 32 - L .k - 1 = omega arith in
-    (omega arith, refl, rw (m, c .units-in .ensures) (units-again b (c .before .before .before .before .before .args .dose) (c .before .before .before .before .before .pre) (L .k) (length b / 32 - L .k) (c .before .before .before .before .before .args .tick) (L .sum) (L .inv .2) (omega arith)))
+    let A = c .before .before .before .before .before in
+    let L = c .before .before .loop in
+    let n = c .before .before .before .record-count .result in
+    let m : n - (L .k + 1) ≡ n - L .k - 1 = omega arith in
+    (omega arith, L .inv .1, rw (m, c .units-at .ensures) (units-again (A .args .plan .now) (A .args .dose) (A .pre) (A .args .tick) (L .k) _ (L .sum) (L .inv .2) (omega arith)))
 
 returns : tie.Need-returns Inv-loop μ-loop
-returns c = units-end (c .before .before .before .args .plan .now) (c .before .before .before .args .dose) (c .before .before .before .pre) (c .before .loop .k) _ (c .before .before .before .args .tick) (c .before .loop .sum) (c .before .loop .inv .2) (omega arith)
+returns c =
+    let A = c .before .before .before .before in
+    let L = c .before .loop in
+    units-end (A .args .plan .now) (A .args .dose) (A .pre) (A .args .tick) (L .k) _ (L .sum) (L .inv .2) (omega arith)
 
 pub units-before-spec : {M : Type 1} → statement M
 units-before-spec =
@@ -62,13 +58,9 @@ units-before-spec =
     (tie.spec
     Inv-loop
     μ-loop
+    record-count-requires
     loop-holds
-    mul-a
-    add-e
-    sub-units-in
-    part-units-in-start
-    part-units-in-end
-    units-in-requires
+    units-at-requires
     add-sum
     add-k
     loop-less

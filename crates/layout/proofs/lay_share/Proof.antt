@@ -2,7 +2,7 @@
 use lib.ListN.{length}
 use mathlib.Core.Path.{ap, _∙_}
 use native.Mathlib.Omega.{arith}
-use Rattle.field.proofs.Laws.{length-written}
+use Rattle.records.proofs.Laws.{length-written}
 use Rattle.layout.specs.Held.{asLane}
 use Rattle.layout.proofs.Shares.{laid-none, laid-one, laid-two, room-one, room-two, small}
 use borrow.Author.Needs.{needs}

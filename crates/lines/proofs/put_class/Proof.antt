@@ -1,20 +1,20 @@
--- `put_class` meets its contract: the line's four numbers are the fields of the C record, each read at its place (Records).
-use Rattle.lines.proofs.Records.{put-class-fields}
+-- `put_class` meets its contract: the line's four numbers are the fields of the class.
+use Rattle.lines.specs.Text.{classText}
 use borrow.Author.Needs.{needs}
 use Rattle.lines.proofs.put_class.Statement.{statement}
 use Rattle.lines.proofs.put_class.Tie as tie
 
-one-byte-requires : tie.Need-one-byte-requires
-one-byte-requires c κs = search needs
+cast-t6 : tie.Need-cast-t6
+cast-t6 c = search needs
 
-two-bytes-requires : tie.Need-two-bytes-requires
-two-bytes-requires c κs = search needs
+cast-t7 : tie.Need-cast-t7
+cast-t7 c = search needs
 
-four-bytes-requires : tie.Need-four-bytes-requires
-four-bytes-requires c κs = search needs
+cast-t8 : tie.Need-cast-t8
+cast-t8 c = search needs
 
-four-bytes-requires-2 : tie.Need-four-bytes-requires-2
-four-bytes-requires-2 c κs = search needs
+cast-t9 : tie.Need-cast-t9
+cast-t9 c = search needs
 
 slice-aggregate-put-line : tie.Need-slice-aggregate-put-line
 slice-aggregate-put-line c = search needs
@@ -29,16 +29,17 @@ same-length : tie.Need-same-length
 same-length c = search needs
 
 returns : tie.Need-returns
-returns c = put-class-fields (c .before .before .before .before .before .before .before .before .before .before .before .before .args .bytes .now) (c .before .before .before .before .before .before .before .before .before .one-byte .ensures) (c .before .before .before .before .before .before .before .before .two-bytes .ensures) (c .before .before .before .before .before .before .before .four-bytes .ensures) (c .before .before .before .before .before .before .four-bytes2 .ensures) (c .before .before .put-line .ensures)
+unfolding classText
+returns c = c .before .before .put-line .ensures
 
 pub put-class-spec : {M : Type 1} → statement M
 put-class-spec =
     tie.close
     (tie.spec
-    one-byte-requires
-    two-bytes-requires
-    four-bytes-requires
-    four-bytes-requires-2
+    cast-t6
+    cast-t7
+    cast-t8
+    cast-t9
     slice-aggregate-put-line
     slice-aggregate-put-line-2
     put-line-requires

@@ -1,11 +1,15 @@
--- `put_record` meets its contract: a record of kind 0x43 has a class's line, any other a slot's (Records).
+-- `put_record` meets its contract: a C has a class's line, any other record a slot's (Records).
+use mathlib.Core.Path.{sym, _∙_}
 use Rattle.lines.proofs.Records.{put-of-class, put-of-slot}
 use borrow.Author.Needs.{needs}
 use Rattle.lines.proofs.put_record.Statement.{statement}
 use Rattle.lines.proofs.put_record.Tie as tie
 
-shared-slice-read-if1 : tie.Need-shared-slice-read-if1
-shared-slice-read-if1 c = search needs
+kind-at-requires : tie.Need-kind-at-requires
+kind-at-requires c κs = search needs
+
+class-at-requires : tie.Need-class-at-requires
+class-at-requires c κs = search needs
 
 put-class-requires : tie.Need-put-class-requires
 put-class-requires c κs = search needs
@@ -14,7 +18,13 @@ same-length : tie.Need-same-length
 same-length c = search needs
 
 returns : tie.Need-returns
-returns c = put-of-class (c .before .before .before .before .before .before .before .before .args .bytes .now) (c .before .before .before .before .if1 .taken) (c .before .before .put-class .ensures)
+returns c =
+    let K = c .before .before .before .before .before .before .kind-at in
+    let A = c .before .before .before .before .before .before .before .before .before .args in
+    put-of-class (A .plan .now) (A .i) (sym (K .ensures) ∙ c .before .before .before .before .before .if1 .taken) (c .before .before .before .class-at .ensures) (c .before .before .put-class .ensures)
+
+slot-at-requires : tie.Need-slot-at-requires
+slot-at-requires c κs = search needs
 
 put-slot-requires : tie.Need-put-slot-requires
 put-slot-requires c κs = search needs
@@ -23,16 +33,21 @@ same-length-2 : tie.Need-same-length-2
 same-length-2 c = search needs
 
 returns-2 : tie.Need-returns-2
-returns-2 c = put-of-slot (c .before .before .before .before .before .before .before .before .args .bytes .now) (c .before .before .before .before .if1 .left) (c .before .before .put-slot .ensures)
+returns-2 c =
+    let K = c .before .before .before .before .before .before .kind-at in
+    let A = c .before .before .before .before .before .before .before .before .before .args in
+    put-of-slot (A .plan .now) (A .i) (λ e. c .before .before .before .before .before .if1 .left (K .ensures ∙ e)) (c .before .before .before .slot-at .ensures) (c .before .before .put-slot .ensures)
 
 pub put-record-spec : {M : Type 1} → statement M
 put-record-spec =
     tie.close
     (tie.spec
-    shared-slice-read-if1
+    kind-at-requires
+    class-at-requires
     put-class-requires
     same-length
     returns
+    slot-at-requires
     put-slot-requires
     same-length-2
     returns-2)

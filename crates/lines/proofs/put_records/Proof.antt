@@ -21,8 +21,8 @@ abbrev μ-loop : tie.MeasureT-loop
 loop-holds : tie.Need-loop-holds Inv-loop μ-loop
 loop-holds c = (omega arith, refl, records-none (c .before .before .args .plan .now) _)
 
-put-record-at-requires : tie.Need-put-record-at-requires Inv-loop μ-loop
-put-record-at-requires c κs = (omega arith, omega (arith, records-end (c .before .before .before .before .before .args .plan .now) _ _ (c .before .before .loop .inv .2)))
+put-record-requires : tie.Need-put-record-requires Inv-loop μ-loop
+put-record-requires c κs = (omega arith, omega (arith, records-end (c .before .before .before .before .before .args .plan .now) _ _ (c .before .before .loop .inv .2)))
 
 add-i : tie.Need-add-i Inv-loop μ-loop
 add-i c = search needs
@@ -31,7 +31,7 @@ loop-less : tie.Need-loop-less Inv-loop μ-loop
 loop-less c = search needs
 
 loop-again : tie.Need-loop-again Inv-loop μ-loop
-loop-again c = (omega arith, omega (arith, put-length (c .before .before .put-record-at .ensures)), records-more (c .before .before .before .before .before .before .before .before .args .plan .now) _ _ (c .before .before .before .before .before .loop .inv .2) (c .before .before .put-record-at .ensures))
+loop-again c = (omega arith, omega (arith, put-length (c .before .before .put-record .ensures)), records-more (c .before .before .before .before .before .before .before .before .args .plan .now) _ _ (c .before .before .before .before .before .loop .inv .2) (c .before .before .put-record .ensures))
 
 same-length : tie.Need-same-length Inv-loop μ-loop
 same-length c = search needs
@@ -46,7 +46,7 @@ put-records-spec =
     Inv-loop
     μ-loop
     loop-holds
-    put-record-at-requires
+    put-record-requires
     add-i
     loop-less
     loop-again

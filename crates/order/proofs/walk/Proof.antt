@@ -1,6 +1,6 @@
 -- `walk` meets its contract: what is gathered so far and the records left come to what all come to; a refusal ends the walk (Walks).
 use mathlib.Core.List.{List}
-use Rattle.field.proofs.Records.{record-part, part-length}
+use Rattle.records.proofs.Records.{record-part, part-length}
 use Rattle.order.proofs.Walks.{counts, stops, goes, ends, empty}
 use Prim.Native.Nat.{ℕ, _≤_, _-_, _+_, _/_}
 use mathlib.Core.Path.{_≡_, refl, ap, _∙_}

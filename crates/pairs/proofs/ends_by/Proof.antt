@@ -1,6 +1,6 @@
 -- `ends_by` meets its contract: ticks first, then products of parts (Places).
 use mathlib.Core.Path.{_≡_}
-use Rattle.plan_records.specs.Held.{asSlot}
+use Rattle.records.specs.Held.{asSlot}
 use Rattle.clauses.proofs.Tell.{tells-leb, tells-off, tells-on}
 use Rattle.slots.proofs.Places.{ends-earlier, ends-later, ends-parts, ends-together}
 use native.Mathlib.Omega.{arith}

@@ -1,6 +1,6 @@
 -- `in_turn` meets its contract: the interval, then the fan, then the time.
 use mathlib.Core.Path.{_≡_}
-use Rattle.plan_records.specs.Held.{asSlot}
+use Rattle.records.specs.Held.{asSlot}
 use Rattle.clauses.specs.Tests.{by-fan, by-interval, by-time, placeIn}
 use Rattle.clauses.proofs.Tell.{tells-by, tells-off, tells-on}
 use Rattle.pairs.proofs.Turns.{turn-fan, turn-place, turn-time}

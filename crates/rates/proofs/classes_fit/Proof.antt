@@ -2,7 +2,8 @@
 use Prim.Native.Nat.{ℕ, _-_, _<_, _≤_}
 use lib.ListN.{getD-replicate}
 use borrow.Author.Count.{below-more}
-use Rattle.clauses.specs.Tests.{ClassFits, classIn, sheet}
+use Rattle.records.specs.Plan.{classIn}
+use Rattle.clauses.specs.Tests.{ClassFits, sheet}
 use Rattle.clauses.proofs.Tell.{tells-not, tells-off, tells-on, tells-was}
 use Rattle.rates.proofs.FanTime.{Frees, frees-all, frees-next, says-fits}
 use borrow.Author.Needs.{needs}

@@ -1,7 +1,8 @@
 -- `rates_fall` meets its contract: every class passed is faster than the next.
 use Prim.Native.Nat.{ℕ, _+_, _-_, _<_, _≤_}
 use borrow.Author.Count.{below-more}
-use Rattle.clauses.specs.Tests.{Falls, classIn}
+use Rattle.records.specs.Plan.{classIn}
+use Rattle.clauses.specs.Tests.{Falls}
 use Rattle.clauses.proofs.Tell.{tells-not, tells-off, tells-on, tells-was}
 use borrow.Author.Needs.{needs}
 use native.Mathlib.Omega.{arith}

@@ -2,8 +2,8 @@
 use mathlib.Core.Path.{_≡_, _∙_, ap}
 use Prim.Native.Nat.{ℕ, _-_}
 use lib.ListN.{getD}
-use Rattle.plan_records.specs.Held.{asClass}
-use Rattle.clauses.specs.Tests.{classIn}
+use Rattle.records.specs.Held.{asClass}
+use Rattle.records.specs.Plan.{classIn}
 use Rattle.clauses.proofs.Tell.{tells-by, tells-not, tells-off, tells-was}
 use native.Mathlib.Omega.{arith}
 use borrow.Author.Needs.{needs}

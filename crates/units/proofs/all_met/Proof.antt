@@ -4,7 +4,8 @@ use Prim.Native.Nat.{ℕ, _-_, _*_, _<_, _≤_}
 use lib.ListN.{getD}
 use borrow.Author.Count.{below-more}
 use Rattle.model.specs.Plans as plans
-use Rattle.clauses.specs.Tests.{classIn, needIn}
+use Rattle.records.specs.Plan.{classIn}
+use Rattle.clauses.specs.Tests.{needIn}
 use Rattle.clauses.proofs.Tell.{tells-off, tells-on}
 use borrow.Author.Needs.{needs}
 use native.Mathlib.Omega.{arith}

@@ -2,7 +2,7 @@
 use mathlib.Core.Path.{_≡_, _∙_, ap, refl, sym}
 use Prim.Native.Nat.{ℕ, _-_, _/_, _<_, _≤_}
 use lib.ListN.{getD, getD-replicate, length}
-use Rattle.plan_records.specs.Held.{asSlot}
+use Rattle.records.specs.Held.{asSlot}
 use Rattle.clauses.specs.Tests.{Counts, unitsUpTo}
 use Rattle.clauses.proofs.Tell.{tells-by, tells-off}
 use Rattle.units.proofs.Totals.{Summed, had-fits, over-need, summed-more, summed-none}

@@ -1,6 +1,6 @@
 -- `against_top` meets its contract: the plan's first record has W and P of the first class (OfOrder).
 use Prim.Native.Nat.{_<_}
-use Rattle.plan_records.specs.Held.{asClass}
+use Rattle.records.specs.Held.{asClass}
 use Rattle.judge.specs.Verdict.{slow}
 use Rattle.judge.specs.declared.Judged.the-variants as is
 use Rattle.order.proofs.Fields.{few-doses}

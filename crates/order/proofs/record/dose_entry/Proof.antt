@@ -1,9 +1,9 @@
 -- `dose_entry` meets its contract: a fault of the zeros or the ranges is the refusal; without one the D's fields stand (Takes).
 use mathlib.Core.Path.{ap, _∙_}
-use Rattle.model.specs.Orders.{doseFits}
+use Rattle.model.specs.Orders.{Dose, doseFits}
 use Rattle.order.specs.declared.Entry.the-variants as is
-use Rattle.order.specs.declared.Dose.{Dose}
-use Rattle.order.specs.Held.{asDose, heldEntry}
+use Rattle.records.specs.Held.{heldDose}
+use Rattle.order.specs.Held.{heldEntry}
 use Rattle.order.proofs.Takes.{fault-of, faulty, faultless}
 use borrow.Author.Needs.{needs}
 use Rattle.order.proofs.record.dose_entry.Statement.{statement}
@@ -22,13 +22,13 @@ fault-requires : tie.Need-fault-requires
 fault-requires c κs = search needs
 
 returns : tie.Need-returns
-returns c = faulty _ _ _ _ (fault-of (c .before .fault .ensures) (c .before .before .before .dose-blank .ensures) (c .before .before .dose-fits .ensures ∙ ap (λ (x : Dose). doseFits (asDose x)) (c .before .before .before .before .dose-in .ensures))) (c .if1 .taken)
+returns c = faulty _ _ _ _ (fault-of (c .before .fault .ensures) (c .before .before .before .dose-blank .ensures) (c .before .before .dose-fits .ensures ∙ ap (λ (x : Dose). doseFits x) (c .before .before .before .before .dose-in .ensures))) (c .if1 .taken)
 
 returns-2 : tie.Need-returns-2
 unfolding heldEntry
 returns-2 c =
-    ap is.Dose (c .before .before .before .before .dose-in .ensures)
-    ∙ faultless _ _ _ _ (fault-of (c .before .fault .ensures) (c .before .before .before .dose-blank .ensures) (c .before .before .dose-fits .ensures ∙ ap (λ (x : Dose). doseFits (asDose x)) (c .before .before .before .before .dose-in .ensures))) (c .if1 .left)
+    ap (λ (x : Dose). is.Dose (heldDose x)) (c .before .before .before .before .dose-in .ensures)
+    ∙ faultless _ _ _ _ (fault-of (c .before .fault .ensures) (c .before .before .before .dose-blank .ensures) (c .before .before .dose-fits .ensures ∙ ap (λ (x : Dose). doseFits x) (c .before .before .before .before .dose-in .ensures))) (c .if1 .left)
 
 pub dose-entry-spec : {M : Type 1} → statement M
 dose-entry-spec =

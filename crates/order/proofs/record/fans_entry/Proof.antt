@@ -1,9 +1,9 @@
 -- `fans_entry` meets its contract: a fault of the zeros or the ranges is the refusal; without one the F's fields stand (Takes).
 use mathlib.Core.Path.{ap, _∙_}
-use Rattle.model.specs.Orders.{fansFit}
+use Rattle.model.specs.Orders.{Fans, fansFit}
 use Rattle.order.specs.declared.Entry.the-variants as is
-use Rattle.order.specs.declared.Fans.{Fans}
-use Rattle.order.specs.Held.{asFans, heldEntry}
+use Rattle.records.specs.Held.{heldFans}
+use Rattle.order.specs.Held.{heldEntry}
 use Rattle.order.proofs.Takes.{fault-of, faulty, faultless}
 use borrow.Author.Needs.{needs}
 use Rattle.order.proofs.record.fans_entry.Statement.{statement}
@@ -22,13 +22,13 @@ fault-requires : tie.Need-fault-requires
 fault-requires c κs = search needs
 
 returns : tie.Need-returns
-returns c = faulty _ _ _ _ (fault-of (c .before .fault .ensures) (c .before .before .before .fans-blank .ensures) (c .before .before .fans-fit .ensures ∙ ap (λ (x : Fans). fansFit (asFans x)) (c .before .before .before .before .fans-in .ensures))) (c .if1 .taken)
+returns c = faulty _ _ _ _ (fault-of (c .before .fault .ensures) (c .before .before .before .fans-blank .ensures) (c .before .before .fans-fit .ensures ∙ ap (λ (x : Fans). fansFit x) (c .before .before .before .before .fans-in .ensures))) (c .if1 .taken)
 
 returns-2 : tie.Need-returns-2
 unfolding heldEntry
 returns-2 c =
-    ap is.Fans (c .before .before .before .before .fans-in .ensures)
-    ∙ faultless _ _ _ _ (fault-of (c .before .fault .ensures) (c .before .before .before .fans-blank .ensures) (c .before .before .fans-fit .ensures ∙ ap (λ (x : Fans). fansFit (asFans x)) (c .before .before .before .before .fans-in .ensures))) (c .if1 .left)
+    ap (λ (x : Fans). is.Fans (heldFans x)) (c .before .before .before .before .fans-in .ensures)
+    ∙ faultless _ _ _ _ (fault-of (c .before .fault .ensures) (c .before .before .before .fans-blank .ensures) (c .before .before .fans-fit .ensures ∙ ap (λ (x : Fans). fansFit x) (c .before .before .before .before .fans-in .ensures))) (c .if1 .left)
 
 pub fans-entry-spec : {M : Type 1} → statement M
 fans-entry-spec =

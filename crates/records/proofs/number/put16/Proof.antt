@@ -1,0 +1,35 @@
+-- `put16` meets its contract: the two bytes written, the lower first, are those of the number.
+use lib.ListN.{length-set}
+use native.Mathlib.Omega.{arith}
+use native.Mathlib.Numerals.{add-one}
+use Rattle.model.specs.Records.{numberBytes}
+use Rattle.records.specs.Written.{written}
+use borrow.Author.Needs.{needs}
+use Rattle.records.proofs.number.put16.Statement.{statement}
+use Rattle.records.proofs.number.put16.Tie as tie
+
+cast-b : tie.Need-cast-b
+cast-b c = search needs
+
+slice-write-b : tie.Need-slice-write-b
+slice-write-b c = search needs
+
+cast-b-2 : tie.Need-cast-b-2
+cast-b-2 c = search needs
+
+add-b : tie.Need-add-b
+add-b c = search needs
+
+slice-write-b-2 : tie.Need-slice-write-b-2
+slice-write-b-2 c = simp length-set (omega arith)
+
+same-length : tie.Need-same-length
+same-length c = search needs
+
+returns : tie.Need-returns
+unfolding written numberBytes
+returns c = simp add-one
+
+pub put16-spec : {M : Type 1} → statement M
+put16-spec =
+    tie.close (tie.spec cast-b slice-write-b cast-b-2 add-b slice-write-b-2 same-length returns)

@@ -1,0 +1,21 @@
+-- `fans_in` meets its contract: the fields of an F record, each read at its place.
+use Rattle.model.specs.Records.{fieldsAt}
+use borrow.Author.Needs.{needs}
+use Rattle.records.proofs.order_records.fans_in.Statement.{statement}
+use Rattle.records.proofs.order_records.fans_in.Tie as tie
+
+read8-requires : tie.Need-read8-requires
+read8-requires c κs = search needs
+
+read32-requires : tie.Need-read32-requires
+read32-requires c κs = search needs
+
+read32-requires-2 : tie.Need-read32-requires-2
+read32-requires-2 c κs = search needs
+
+returns : tie.Need-returns
+unfolding fieldsAt
+returns c = cc
+
+pub fans-in-spec : {M : Type 1} → statement M
+fans-in-spec = tie.close (tie.spec read8-requires read32-requires read32-requires-2 returns)
