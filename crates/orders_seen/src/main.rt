@@ -1,6 +1,8 @@
 // Orders made here, read and printed: every refusal 2 to 8 with its place, the ends of every range, and instants.
 use libc::STDOUT_FILENO;
 use order::Order;
+use records::Dose;
+use records::Fans;
 ghost use Prim.Native.Nat.{_+_, _*_, _≤_, _<_};
 ghost use lib.ListN.{length};
 
@@ -81,22 +83,26 @@ fn show_front(bytes: &[u8], len: usize) {
 }
 
 fn put_fans(b: &mut [u8], at: usize, fans: u32, grams: u32, seconds: u32)
-    requires { ⌜ (at ≤ 4096) × (at + 32 ≤ length (now b)) ⌝ }
+    requires { ⌜ at + 32 ≤ length (now b) ⌝ }
 {
-    records::number::put8(b, at, 70);
-    records::number::put8(b, at + 1, fans);
-    records::number::put32(b, at + 4, grams);
-    records::number::put32(b, at + 8, seconds);
+    let f = Fans {
+        fans,
+        top_grams: grams,
+        top_seconds: seconds,
+    };
+    records::put_fans(b, at, f);
 }
 
 fn put_dose(b: &mut [u8], at: usize, bay: u32, release: u32, deadline: u32, grams: u32)
-    requires { ⌜ (at ≤ 4096) × (at + 32 ≤ length (now b)) ⌝ }
+    requires { ⌜ at + 32 ≤ length (now b) ⌝ }
 {
-    records::number::put8(b, at, 68);
-    records::number::put16(b, at + 2, bay);
-    records::number::put32(b, at + 4, release);
-    records::number::put32(b, at + 8, deadline);
-    records::number::put32(b, at + 12, grams);
+    let d = Dose {
+        bay,
+        release,
+        deadline,
+        grams,
+    };
+    records::put_dose(b, at, d);
 }
 
 fn one_fans(fans: u32, grams: u32, seconds: u32) {

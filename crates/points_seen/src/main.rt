@@ -4,6 +4,11 @@ use draw::Pen;
 use draw::Point;
 use draw::State;
 use libc::STDOUT_FILENO;
+use records::Class;
+use records::Dose;
+use records::Fans;
+use records::Slot;
+use records::put_class;
 ghost use Prim.Native.Nat.{_+_, _≤_};
 ghost use lib.ListN.{length};
 ghost use Rattle.model.specs.Answers.{Moves};
@@ -19,51 +24,45 @@ fn number(n: u32) {
 }
 
 fn put_fans(b: &mut [u8], at: usize, fans: u32)
-    requires { ⌜ (at ≤ 4096) × (at + 32 ≤ length (now b)) ⌝ }
+    requires { ⌜ at + 32 ≤ length (now b) ⌝ }
 {
-    records::number::put8(b, at, 0x46);
-    records::number::put8(b, at + 1, fans);
-    records::number::put32(b, at + 4, 1000);
-    records::number::put32(b, at + 8, 1);
+    let f = Fans {
+        fans,
+        top_grams: 1000,
+        top_seconds: 1,
+    };
+    records::put_fans(b, at, f);
 }
 
+// A dose that may start at tick 0.
 fn put_dose(b: &mut [u8], at: usize, bay: u32, deadline: u32, grams: u32)
-    requires { ⌜ (at ≤ 4096) × (at + 32 ≤ length (now b)) ⌝ }
+    requires { ⌜ at + 32 ≤ length (now b) ⌝ }
 {
-    records::number::put8(b, at, 0x44);
-    records::number::put16(b, at + 2, bay);
-    records::number::put32(b, at + 8, deadline);
-    records::number::put32(b, at + 12, grams);
+    let d = Dose {
+        bay,
+        release: 0,
+        deadline,
+        grams,
+    };
+    records::put_dose(b, at, d);
 }
 
-fn put_class(b: &mut [u8], at: usize, class: u32, doses: u32, w: u32, p: u32)
-    requires { ⌜ (at ≤ 4096) × (at + 32 ≤ length (now b)) ⌝ }
+// A slot of a class, from one tick to another.
+fn put_slot(b: &mut [u8], at: usize, fan: u32, dose: u32, start: u32, end: u32, c: Class)
+    requires { ⌜ at + 32 ≤ length (now b) ⌝ }
 {
-    records::number::put8(b, at, 0x43);
-    records::number::put8(b, at + 1, class);
-    records::number::put16(b, at + 2, doses);
-    records::number::put32(b, at + 4, w);
-    records::number::put32(b, at + 8, p);
-}
-
-// A slot from one tick to another.
-fn put_slot(b: &mut [u8], at: usize, fan: u32, dose: u32, start: u32, end: u32)
-    requires { ⌜ (at ≤ 4096) × (at + 32 ≤ length (now b)) ⌝ }
-{
-    records::number::put8(b, at, 0x53);
-    records::number::put8(b, at + 1, fan);
-    records::number::put16(b, at + 2, dose);
-    records::number::put32(b, at + 4, start);
-    records::number::put32(b, at + 12, end);
-}
-
-// The class that a slot names.
-fn put_rate(b: &mut [u8], at: usize, w: u32, p: u32, class: u32)
-    requires { ⌜ (at ≤ 4096) × (at + 32 ≤ length (now b)) ⌝ }
-{
-    records::number::put32(b, at + 20, w);
-    records::number::put32(b, at + 24, p);
-    records::number::put8(b, at + 28, class);
+    let s = Slot {
+        fan,
+        dose,
+        start_tick: start,
+        start_part: 0,
+        end_tick: end,
+        end_part: 0,
+        grams: c.grams,
+        time: c.time,
+        class: c.number,
+    };
+    records::put_slot(b, at, s);
 }
 
 fn show_state(s: State) {
@@ -129,12 +128,22 @@ fn first_order(b: &mut [u8; 96]) {
 }
 
 fn first_plan(p: &mut [u8; 128]) {
-    put_class(p, 0, 1, 1, 16, 4);
-    put_class(p, 32, 2, 1, 20, 6);
-    put_slot(p, 64, 1, 1, 0, 4);
-    put_rate(p, 64, 16, 4, 1);
-    put_slot(p, 96, 1, 0, 4, 10);
-    put_rate(p, 96, 20, 6, 2);
+    let c = Class {
+        number: 1,
+        doses: 1,
+        grams: 16,
+        time: 4,
+    };
+    let d = Class {
+        number: 2,
+        doses: 1,
+        grams: 20,
+        time: 6,
+    };
+    put_class(p, 0, c);
+    put_class(p, 32, d);
+    put_slot(p, 64, 1, 1, 0, 4, c);
+    put_slot(p, 96, 1, 0, 4, 10, d);
 }
 
 // P2: two fans; three of [0,3) 10.
@@ -146,15 +155,17 @@ fn second_order(b: &mut [u8; 128]) {
 }
 
 fn second_plan(p: &mut [u8; 160]) {
-    put_class(p, 0, 1, 3, 30, 6);
-    put_slot(p, 32, 1, 0, 0, 2);
-    put_rate(p, 32, 30, 6, 1);
-    put_slot(p, 64, 1, 1, 2, 3);
-    put_rate(p, 64, 30, 6, 1);
-    put_slot(p, 96, 2, 1, 0, 1);
-    put_rate(p, 96, 30, 6, 1);
-    put_slot(p, 128, 2, 2, 1, 3);
-    put_rate(p, 128, 30, 6, 1);
+    let c = Class {
+        number: 1,
+        doses: 3,
+        grams: 30,
+        time: 6,
+    };
+    put_class(p, 0, c);
+    put_slot(p, 32, 1, 0, 0, 2, c);
+    put_slot(p, 64, 1, 1, 2, 3, c);
+    put_slot(p, 96, 2, 1, 0, 1, c);
+    put_slot(p, 128, 2, 2, 1, 3, c);
 }
 
 fn first_points(b: &[u8; 96], p: &[u8; 128]) {
