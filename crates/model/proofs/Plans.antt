@@ -4,7 +4,7 @@ use mathlib.Core.List.{List, [], _∷_, _++_, append-assoc, map}
 use Prim.Native.Nat.{ℕ, _+_, _*_}
 use native.Mathlib.Omega.{arith}
 use lib.ListN.{length, length-append, length-map}
-use Rattle.model.specs.Records.{classParts, read, slotParts}
+use Rattle.model.specs.Records.{classKind, classParts, read, slotKind, slotParts}
 use Rattle.model.specs.Plans.{Class, PlanRecord, Slot, classRecord, planOf, planRecordBytes, planRecords, recordsBytes, slotRecord, slotsIn, slotsRead}
 use Rattle.model.proofs.Records.{length-record, sizeOf}
 
