@@ -18,7 +18,8 @@ use Rattle.order.specs.declared.Order.{Order}
 use Rattle.records.specs.declared.order_records.Dose.{Dose}
 use Rattle.order.specs.declared.Gathered.{Gathered}
 use Rattle.order.specs.declared.Walked.{Walked}
-use Rattle.order.specs.Held.{heldFans, heldDose, heldEntry, heldOrder}
+use Rattle.records.specs.Held.{heldFans, heldDose}
+use Rattle.order.specs.Held.{heldEntry, heldOrder}
 use Rattle.order.specs.Gathered.{went, noRecords, withDose, withFans, withDoseAt, taken, takenOther, takenRefused, adding, walkedFrom}
 
 -- ---- a refusal has a number

@@ -8,7 +8,8 @@ use borrow.Author.Needs.{needs}
 use Rattle.model.specs.Orders.{clash}
 use Rattle.model.specs.Orders as orders
 use Rattle.order.specs.declared.Order.{Order}
-use Rattle.order.specs.Held.{asDose, doseHeld}
+use Rattle.records.specs.Held.{asDose}
+use Rattle.order.specs.Held.{doseHeld}
 use Rattle.order.specs.Gathered.{firstOf, dosesClash, earlierClash}
 use Rattle.order.proofs.Firsts.{first-none, first-stop, first-on}
 use Rattle.order.proofs.earlier_clash.Statement.{statement}
