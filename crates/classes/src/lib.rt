@@ -12,7 +12,7 @@ use sequence::by_deadline;
 use sheet::active_in_order;
 use sheet::grams_in;
 use sheet::lens_in;
-use steps::wide;
+use steps::excess;
 use steps::without;
 use table::free_fans;
 use table::reserve;
@@ -259,7 +259,7 @@ pub fn too_fast(o: Order, t: Tally) -> TooFast
     }
     let w = t.grams[0];
     let p = t.time[0];
-    if w * wide(o.top_seconds) <= p * wide(o.top_grams) {
+    if excess(w as u32, p as u32, o.top_grams, o.top_seconds) == 0 {
         return not_above();
     }
     let numbers = t.numbers;

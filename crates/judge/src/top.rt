@@ -2,8 +2,8 @@
 use crate::Judged;
 use order::Order;
 use records::class_at;
+use steps::excess;
 use steps::on;
-use steps::product;
 use steps::wide;
 ghost use mathlib.Core.Path.{_≡_};
 ghost use Prim.Native.Nat.{_≤_};
@@ -38,7 +38,7 @@ pub fn against_top(o: Order, plan: &[u8], classes: usize, numbers: [u32; 24]) ->
         return Judged::Stands;
     }
     let c = class_at(plan, 0);
-    if product(c.grams, o.top_seconds) <= product(c.time, o.top_grams) {
+    if excess(c.grams, c.time, o.top_grams, o.top_seconds) == 0 {
         return Judged::Stands;
     }
     Judged::TooFast {

@@ -2,10 +2,10 @@
 use records::Class;
 use records::class_at;
 use steps::both;
+use steps::excess;
 use steps::index;
 use steps::less;
 use steps::on;
-use steps::product;
 use steps::smaller;
 use steps::wide;
 ghost use mathlib.Core.Path.{_≡_};
@@ -215,9 +215,7 @@ pub fn classes_fit(
 fn falls(c: Class, d: Class) -> bool
     ensures { λ t. ⌜ Tells t (Falls (asClass c) (asClass d)) ⌝ }
 {
-    let later = product(d.grams, c.time);
-    let earlier = product(c.grams, d.time);
-    if earlier <= later {
+    if excess(c.grams, c.time, d.grams, d.time) == 0 {
         return false;
     }
     true

@@ -66,3 +66,10 @@ pub fn product(a: u32, b: u32) -> u64
 {
     (a as u64) * (b as u64)
 }
+
+// How far the rate a / b is above c / d, and 0 where it isn't: "Fractions are compared by exact products".
+pub fn excess(a: u32, b: u32, c: u32, d: u32) -> u64
+    ensures { λ r. ⌜ r ≡ a * d - c * b ⌝ }
+{
+    less(product(a, d), product(c, b))
+}

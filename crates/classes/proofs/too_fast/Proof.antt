@@ -4,7 +4,6 @@ use mathlib.Core.Path.{ap, _∙_}
 use lib.ListN.{getD}
 use native.Mathlib.Omega.{arith}
 use borrow.Author.Needs.{needs}
-use native.Mathlib.Nat.{mul-le-mul}
 use Rattle.model.specs.Classes.{setNumber}
 use Rattle.order.specs.Held.{asOrder}
 use Rattle.classes.specs.Phase.{classOf}
@@ -27,54 +26,43 @@ element-copy-out-w c = search needs
 element-copy-out-p : tie.Need-element-copy-out-p
 element-copy-out-p c = search needs
 
-wide-requires : tie.Need-wide-requires
-wide-requires c κs = search needs
+cast-excess : tie.Need-cast-excess
+cast-excess c =
+    let A = c .before .before .before .args in
+    let some : 0 < A .t2 .class = omega (arith, c .before .before .if1 .left) in
+    omega (arith, grams-fit (asOrder (A .o)) (c .before .before .before .pre .0) (A .t2) (c .before .before .before .pre .1) some)
 
-mul-if2 : tie.Need-mul-if2
-mul-if2 c =
-    let A = c .before .before .before .before .args in
-    let fit = c .before .before .before .before .pre .0 in
-    let of = c .before .before .before .before .pre .1 in
-    let some : 0 < A .t2 .class = omega (arith, c .before .before .before .if1 .left) in
-    let top : c .wide .result ≤ 4294967295 = omega (arith, c .wide .ensures .1) in
-    let h : getD (A .t2 .grams) 0 0 * c .wide .result ≤ 24000000 * 4294967295 = mul-le-mul (grams-fit (asOrder (A .o)) fit (A .t2) of some) top in
-    omega arith
+cast-excess-2 : tie.Need-cast-excess-2
+cast-excess-2 c =
+    let A = c .before .before .before .args in
+    let some : 0 < A .t2 .class = omega (arith, c .before .before .if1 .left) in
+    omega (arith, time-fit (asOrder (A .o)) (c .before .before .before .pre .0) (A .t2) (c .before .before .before .pre .1) some)
 
-wide-requires-2 : tie.Need-wide-requires-2
-wide-requires-2 c κs = search needs
-
-mul-if2-2 : tie.Need-mul-if2-2
-mul-if2-2 c =
-    let A = c .before .before .before .before .before .args in
-    let fit = c .before .before .before .before .before .pre .0 in
-    let of = c .before .before .before .before .before .pre .1 in
-    let some : 0 < A .t2 .class = omega (arith, c .before .before .before .before .if1 .left) in
-    let top : c .wide2 .result ≤ 4294967295 = omega (arith, c .wide2 .ensures .1) in
-    let h : getD (A .t2 .time) 0 0 * c .wide2 .result ≤ 1000000000 * 4294967295 = mul-le-mul (time-fit (asOrder (A .o)) fit (A .t2) of some) top in
-    omega arith
+excess-requires : tie.Need-excess-requires
+excess-requires c κs = search needs
 
 not-above-requires-2 : tie.Need-not-above-requires-2
 not-above-requires-2 c κs = search needs
 
 returns-2 : tie.Need-returns-2
 returns-2 c =
+    let A = c .before .before .before .before .before .before .args in
+    let fit = c .before .before .before .before .before .before .pre .0 in
+    let of = c .before .before .before .before .before .before .pre .1 in
+    let some : 0 < A .t2 .class = omega (arith, c .before .before .before .before .before .if1 .left) in
+    let h : getD (A .t2 .grams) 0 0 * asOrder (A .o) .topSeconds ≤ getD (A .t2 .time) 0 0 * asOrder (A .o) .topGrams = omega (arith, c .before .if2 .taken, c .before .before .excess .ensures, ap (λ (y : ℕ). getD (A .t2 .grams) 0 0 * y) (top-seconds-is (A .o)), ap (λ (y : ℕ). getD (A .t2 .time) 0 0 * y) (top-grams-is (A .o))) in
+    too-fast-not (asOrder (A .o)) fit (A .t2) of _ (c .not-above2 .ensures) (slow-if (asOrder (A .o)) fit (A .t2) of some h)
+
+first-set-requires : tie.Need-first-set-requires
+first-set-requires c κs = few-doses (c .before .before .before .before .before .before .args .o) (c .before .before .before .before .before .before .pre .0)
+
+returns-3 : tie.Need-returns-3
+returns-3 c =
     let A = c .before .before .before .before .before .before .before .args in
     let fit = c .before .before .before .before .before .before .before .pre .0 in
     let of = c .before .before .before .before .before .before .before .pre .1 in
     let some : 0 < A .t2 .class = omega (arith, c .before .before .before .before .before .before .if1 .left) in
-    let h : getD (A .t2 .grams) 0 0 * asOrder (A .o) .topSeconds ≤ getD (A .t2 .time) 0 0 * asOrder (A .o) .topGrams = omega (arith, c .before .if2 .taken, ap (λ (y : ℕ). getD (A .t2 .grams) 0 0 * y) (c .before .before .before .wide .ensures .0 ∙ top-seconds-is (A .o)), ap (λ (y : ℕ). getD (A .t2 .time) 0 0 * y) (c .before .before .wide2 .ensures .0 ∙ top-grams-is (A .o))) in
-    too-fast-not (asOrder (A .o)) fit (A .t2) of _ (c .not-above2 .ensures) (slow-if (asOrder (A .o)) fit (A .t2) of some h)
-
-first-set-requires : tie.Need-first-set-requires
-first-set-requires c κs = few-doses (c .before .before .before .before .before .before .before .args .o) (c .before .before .before .before .before .before .before .pre .0)
-
-returns-3 : tie.Need-returns-3
-returns-3 c =
-    let A = c .before .before .before .before .before .before .before .before .args in
-    let fit = c .before .before .before .before .before .before .before .before .pre .0 in
-    let of = c .before .before .before .before .before .before .before .before .pre .1 in
-    let some : 0 < A .t2 .class = omega (arith, c .before .before .before .before .before .before .before .if1 .left) in
-    let h : getD (A .t2 .time) 0 0 * asOrder (A .o) .topGrams < getD (A .t2 .grams) 0 0 * asOrder (A .o) .topSeconds = omega (arith, c .before .before .if2 .left, ap (λ (y : ℕ). getD (A .t2 .grams) 0 0 * y) (c .before .before .before .before .wide .ensures .0 ∙ top-seconds-is (A .o)), ap (λ (y : ℕ). getD (A .t2 .time) 0 0 * y) (c .before .before .before .wide2 .ensures .0 ∙ top-grams-is (A .o))) in
+    let h : getD (A .t2 .time) 0 0 * asOrder (A .o) .topGrams < getD (A .t2 .grams) 0 0 * asOrder (A .o) .topSeconds = omega (arith, c .before .before .if2 .left, c .before .before .before .excess .ensures, ap (λ (y : ℕ). getD (A .t2 .grams) 0 0 * y) (top-seconds-is (A .o)), ap (λ (y : ℕ). getD (A .t2 .time) 0 0 * y) (top-grams-is (A .o))) in
     too-fast-above (asOrder (A .o)) fit (A .t2) of some (c .first-set .result) (c .first-set .ensures ∙ ap (λ (m : ℕ). setNumber m (classOf (A .t2 .numbers) 0)) (doses-is (A .o))) h
 
 pub too-fast-spec : {M : Type 1} → statement M
@@ -85,10 +73,9 @@ too-fast-spec =
     returns
     element-copy-out-w
     element-copy-out-p
-    wide-requires
-    mul-if2
-    wide-requires-2
-    mul-if2-2
+    cast-excess
+    cast-excess-2
+    excess-requires
     not-above-requires-2
     returns-2
     first-set-requires
