@@ -3,7 +3,7 @@
 use mathlib.Core.Bool.{Bool, true, false}
 use mathlib.Core.List.{List, []}
 use mathlib.Core.Path.{_≡_, refl, sym, ap, _∙_, fun-ext}
-use Prim.Native.Nat.{ℕ, _^_, _<_}
+use Prim.Native.Nat.{ℕ, _+_, _^_, _<_}
 use native.Mathlib.Omega.{arith}
 use lib.Dec.{eqb→eq}
 use lib.ListN.{length, getD}
@@ -91,8 +91,8 @@ module _ (o : Order) where
     pub one-number : (k : ℕ) → k < S .doses → getD (t .numbers) k 0 ≡ getD (t′ .numbers) k 0
     one-number k q =
         let r = upto-find (classesIn t) (t .class) k (all-in S F (t .class) (classesIn t) (c .classes) k q) in
-        eqb→eq (getD (t .numbers) k 0) (r .0) (r .2)
-        ∙ sym (eqb→eq (getD (t′ .numbers) k 0) (r .0) (alike-sub (S .doses) (classesIn t (r .0)) (classesIn t′ (r .0)) (one-class (r .0) (r .1)) k q (r .2)))
+        eqb→eq (getD (t .numbers) k 0) (r .0 + 1) (r .2)
+        ∙ sym (eqb→eq (getD (t′ .numbers) k 0) (r .0 + 1) (alike-sub (S .doses) (classesIn t (r .0)) (classesIn t′ (r .0)) (one-class (r .0) (r .1)) k q (r .2)))
 
     pub one-grams : (i : ℕ) → i < t .class → getD (t .grams) i 0 ≡ getD (t′ .grams) i 0
     one-grams i q = c .grams i q ∙ weight-alike (S .doses) (S .grams) _ _ (one-class i q) ∙ sym (c′ .grams i (omega (arith, one-count)))

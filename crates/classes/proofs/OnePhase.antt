@@ -9,7 +9,7 @@ use native.Mathlib.Omega.{arith}
 use borrow.Author.Tests.{eq-eqb, lt-ltb, le-ltb}
 use lib.Arith.{digits-div}
 use lib.Dec.{T, T-not, eqb, eqb→eq}
-use lib.ListN.{length, getD, replicate, getD-replicate}
+use lib.ListN.{length, getD, replicate}
 use Rattle.model.specs.Sets.{sum, on, Doses, Nonempty}
 use Rattle.model.specs.Classes.{Setting, Row, W, P, NextClass, Classes, classP, reserved, remaining, free, openFans}
 use Rattle.model.specs.Shares.{Valid}
@@ -83,10 +83,7 @@ module _ (n J : ℕ) (active : List Bool) (lens grams : List ℕ) (F : Row) (few
     abbrev C : ℕ → Doses
     C = classesIn t
 
-    -- the next class has a number and a dose
-    pub more-classes : i < 24
-    more-classes = omega (arith, so .each)
-
+    -- the next class has a dose
     pub some-remain : Nonempty n (setOf (t .remaining))
     some-remain =
         let r = weight-pos n (λ k. 1) (remaining C i) (omega (arith, so .counted)) in
@@ -111,21 +108,21 @@ module _ (n J : ℕ) (active : List Bool) (lens grams : List ℕ) (F : Row) (few
         remained : (k : ℕ) → k < n → T (A k) → T (remaining C i k)
         remained k q u = rw (so .rest k q) at (chosen .next .within k q u)
 
-        number : (k : ℕ) → k < n → getD (t′ .numbers) k 0 ≡ choose (A k) i (getD (t .numbers) k 0)
+        number : (k : ℕ) → k < n → getD (t′ .numbers) k 0 ≡ choose (A k) (i + 1) (getD (t .numbers) k 0)
         number k q = after .numbers k (omega arith)
 
-        of-member : (k l : ℕ) → k < n → T (A k) → C′ l k ≡ eqb i l
+        of-member : (k l : ℕ) → k < n → T (A k) → C′ l k ≡ eqb (i + 1) (l + 1)
         of-member k l q u = go (A k) u (number k q)
           where
-            go : (b : Bool) → T b → getD (t′ .numbers) k 0 ≡ choose b i (getD (t .numbers) k 0) → C′ l k ≡ eqb i l
-            go true u e = ap (λ (m : ℕ). eqb m l) e
+            go : (b : Bool) → T b → getD (t′ .numbers) k 0 ≡ choose b (i + 1) (getD (t .numbers) k 0) → C′ l k ≡ eqb (i + 1) (l + 1)
+            go true u e = ap (λ (m : ℕ). eqb m (l + 1)) e
 
         of-other : (k l : ℕ) → k < n → (T (A k) → ⊥) → C′ l k ≡ C l k
         of-other k l q u = go (A k) u (number k q)
           where
-            go : (b : Bool) → (T b → ⊥) → getD (t′ .numbers) k 0 ≡ choose b i (getD (t .numbers) k 0) → C′ l k ≡ C l k
+            go : (b : Bool) → (T b → ⊥) → getD (t′ .numbers) k 0 ≡ choose b (i + 1) (getD (t .numbers) k 0) → C′ l k ≡ C l k
             go true u e = absurd (u tt)
-            go false u e = ap (λ (m : ℕ). eqb m l) e
+            go false u e = ap (λ (m : ℕ). eqb m (l + 1)) e
 
         member-or : {X : Type 0} (k : ℕ) → (T (A k) → X) → ((T (A k) → ⊥) → X) → X
         member-or {X} k f g = go (A k) refl
@@ -139,14 +136,14 @@ module _ (n J : ℕ) (active : List Bool) (lens grams : List ℕ) (F : Row) (few
         alike-below l m k q =
             member-or k
             (λ u. same-test (C l k) (C′ l k) (λ v. absurd (remaining-not C i l k m (remained k q u) v))
-            (λ v. absurd (omega (arith, eqb→eq i l (rw (of-member k l q u) at v)))))
+            (λ v. absurd (omega (arith, eqb→eq (i + 1) (l + 1) (rw (of-member k l q u) at v)))))
             (λ u. sym (of-other k l q u))
 
         -- and the next is the members
         alike-here : Alike n A (C′ i)
         alike-here k q =
-            same-test (A k) (C′ i k) (λ u. rw (of-member k i q u, eq-eqb i i refl) tt)
-            (λ v. member-or k (λ u. u) (λ u. absurd (so .later k i q (omega arith) more-classes (rw (of-other k i q u) at v))))
+            same-test (A k) (C′ i k) (λ u. rw (of-member k i q u, eq-eqb (i + 1) (i + 1) refl) tt)
+            (λ v. member-or k (λ u. u) (λ u. absurd (so .later k i q (omega arith) (rw (of-other k i q u) at v))))
 
         free′ : (l : ℕ) → l ≤ i → (j : ℕ) → free S F C l j ≡ free S F C′ l j
         free′ l m j = free-alike S F C C′ l (λ l′ q. alike-below l′ (omega arith)) j
@@ -186,10 +183,10 @@ module _ (n J : ℕ) (active : List Bool) (lens grams : List ℕ) (F : Row) (few
                   (λ u. and-both (remaining C′ i k) (C′ i k) (rw (remaining-alike S C C′ i alike-below k q) at (remained k q (rw (← alike-here k q) at u))) u)),
             )
 
-        later′ : (k l : ℕ) → k < n → t′ .class ≤ l → l < 24 → T (C′ l k) → ⊥
-        later′ k l q m h v =
-            member-or k (λ u. omega (arith, eqb→eq i l (rw (of-member k l q u) at v), after .class))
-            (λ u. so .later k l q (omega (arith, after .class)) h (rw (of-other k l q u) at v))
+        later′ : (k l : ℕ) → k < n → t′ .class ≤ l → T (C′ l k) → ⊥
+        later′ k l q m v =
+            member-or k (λ u. omega (arith, eqb→eq (i + 1) (l + 1) (rw (of-member k l q u) at v), after .class))
+            (λ u. so .later k l q (omega (arith, after .class)) (rw (of-other k l q u) at v))
 
         -- the shares
         cell-at : (k j : ℕ) → k < 24 → j < 47 → cell shares′ k j ≡ choose (A k) (cell x k j) (cell shares k j)
@@ -254,7 +251,7 @@ module _ (n J : ℕ) (active : List Bool) (lens grams : List ℕ) (F : Row) (few
         past′ : Past n J t′ table′ shares′
         past′ = record {
           no-rest = λ k g l. after .remaining k l ∙ ap (λ (b : Bool). b && not (getD members k false)) (so .past .no-rest k g l);
-          no-number = λ k g l. after .numbers k l ∙ ap (λ (b : Bool). choose b i (getD (t .numbers) k 0)) (chosen .past k g l) ∙ so .past .no-number k g l;
+          no-number = λ k g l. after .numbers k l ∙ ap (λ (b : Bool). choose b (i + 1) (getD (t .numbers) k 0)) (chosen .past k g l) ∙ so .past .no-number k g l;
           no-grams = λ l g. after .other-grams l (λ e. omega (arith, after .class)) ∙ so .past .no-grams l (omega (arith, after .class));
           no-time = λ l g. after .other-time l (λ e. omega (arith, after .class)) ∙ so .past .no-time l (omega (arith, after .class));
           no-row = λ l j g. row .others l j (λ e. omega (arith, after .class)) ∙ so .past .no-row l j (omega (arith, after .class));
@@ -293,14 +290,14 @@ module _ (n J : ℕ) (active : List Bool) (lens grams : List ℕ) (F : Row) (few
     counted = ap (λ (i : ℕ). size n (remaining (classesIn t) i) + t .classed) (z .class)
         ∙ omega (arith, z .classed, weight-alike n (λ k. 1) (remaining (classesIn t) 0) (λ k. true) (λ k q. all-remain (classesIn t) k), size-all n);
     each = omega (arith, z .class);
-    later = λ k i q g l v. omega (arith, eqb→eq (getD (t .numbers) k 0) i v, ap (λ (l : List ℕ). getD l k 0) (z .numbers), getD-replicate {A = ℕ} 24 k 24 0 (omega arith));
+    later = λ k i q g v. omega (arith, eqb→eq (getD (t .numbers) k 0) (i + 1) v, ap (λ (l : List ℕ). getD l k 0) (z .numbers), all-same {A = ℕ} 24 k 0);
     grams = λ i l. absurd (omega (arith, z .class));
     time = λ i l. absurd (omega (arith, z .class));
     rows = λ i j l. absurd (omega (arith, z .class));
     valid = λ i l. absurd (omega (arith, z .class));
     past = record {
       no-rest = λ k g l. z .remaining k l ∙ le-ltb k n g;
-      no-number = λ k g l. ap (λ (l : List ℕ). getD l k 0) (z .numbers) ∙ getD-replicate {A = ℕ} 24 k 24 0 l;
+      no-number = λ k g l. ap (λ (l : List ℕ). getD l k 0) (z .numbers) ∙ all-same {A = ℕ} 24 k 0;
       no-grams = λ i g. ap (λ (l : List ℕ). getD l i 0) (z .grams) ∙ all-same 24 i 0;
       no-time = λ i g. ap (λ (l : List ℕ). getD l i 0) (z .time) ∙ all-same 24 i 0;
       no-row = λ i j g. blank .rows i j;

@@ -4,7 +4,7 @@ use mathlib.Core.Bool.{Bool, true, false, not, _&&_}
 use mathlib.Core.Logic.{_≢_}
 use mathlib.Core.List.{List, []}
 use Prim.Native.Nat.{ℕ, _+_, _/_, _<_, _≤_}
-use lib.Dec.{T, eqb, ltb}
+use lib.Dec.{T, ltb}
 use lib.ListN.{length, getD, replicate}
 use Rattle.model.specs.Sets.{on, Doses}
 use Rattle.model.specs.Classes.{Setting, Row, W, classP, remaining, free}
@@ -13,7 +13,7 @@ use Rattle.model.specs.Shares.{Valid}
 use Rattle.model.proofs.Sets.{size}
 use Rattle.model.proofs.Sequence.{Found}
 use Rattle.chains.specs.Chains.{cell}
-use Rattle.sheet.specs.Sheet.{setOf}
+use Rattle.sheet.specs.Sheet.{setOf, setsOf}
 use Rattle.classes.specs.declared.Tally.{Tally}
 
 -- a where the test holds, and b where not
@@ -31,13 +31,9 @@ pub record Reserved (i : ℕ) (reserved : List ℕ) (before after : List (List �
   pub own : (j : ℕ) → j < 47 → rowAt after i j ≡ getD reserved j 0
   pub others : (l j : ℕ) → l ≢ i → rowAt after l j ≡ rowAt before l j
 
--- class i by the number of each dose
-abbrev pub classOf : List ℕ → ℕ → Doses
-classOf numbers i k = eqb (getD numbers k 0) i
-
 -- the classes that the tally has
 abbrev pub classesIn : Tally → ℕ → Doses
-classesIn t = classOf (t .numbers)
+classesIn t = setsOf (t .numbers)
 
 -- the shares of class i
 abbrev pub sharesIn : Tally → List ℕ → ℕ → ℕ → ℕ → ℕ
@@ -48,7 +44,7 @@ pub record Start (n : ℕ) (t : Tally) : Type 0 where
   pub class : t .class ≡ 0
   pub classed : t .classed ≡ 0
   pub remaining : (k : ℕ) → k < 24 → getD (t .remaining) k false ≡ ltb k n
-  pub numbers : t .numbers ≡ replicate 24 24
+  pub numbers : t .numbers ≡ replicate 24 0
   pub grams : t .grams ≡ replicate 24 0
   pub time : t .time ≡ replicate 24 0
 
@@ -62,7 +58,7 @@ pub record After (n : ℕ) (members : List Bool) (w p : ℕ) (t r : Tally) : Typ
   pub class : r .class ≡ t .class + 1
   pub classed : r .classed ≡ t .classed + size n (setOf members)
   pub remaining : (k : ℕ) → k < 24 → getD (r .remaining) k false ≡ (getD (t .remaining) k false && not (getD members k false))
-  pub numbers : (k : ℕ) → k < 24 → getD (r .numbers) k 0 ≡ choose (getD members k false) (t .class) (getD (t .numbers) k 0)
+  pub numbers : (k : ℕ) → k < 24 → getD (r .numbers) k 0 ≡ choose (getD members k false) (t .class + 1) (getD (t .numbers) k 0)
   pub grams : getD (r .grams) (t .class) 0 ≡ w
   pub time : getD (r .time) (t .class) 0 ≡ p
   pub other-grams : (i : ℕ) → i ≢ t .class → getD (r .grams) i 0 ≡ getD (t .grams) i 0
@@ -75,7 +71,7 @@ KeptShares members x before after = (i : ℕ) → i < 1128 → getD after i 0 �
 -- nothing stands past the doses, the intervals and the classes so far
 pub record Past (n J : ℕ) (t : Tally) (table : List (List ℕ)) (shares : List ℕ) : Type 0 where
   pub no-rest : (k : ℕ) → n ≤ k → k < 24 → getD (t .remaining) k false ≡ false
-  pub no-number : (k : ℕ) → n ≤ k → k < 24 → getD (t .numbers) k 0 ≡ 24
+  pub no-number : (k : ℕ) → n ≤ k → k < 24 → getD (t .numbers) k 0 ≡ 0
   pub no-grams : (i : ℕ) → t .class ≤ i → getD (t .grams) i 0 ≡ 0
   pub no-time : (i : ℕ) → t .class ≤ i → getD (t .time) i 0 ≡ 0
   pub no-row : (i j : ℕ) → t .class ≤ i → rowAt table i j ≡ 0
@@ -90,7 +86,7 @@ pub record SoFar (S : Setting) (F : Row) (t : Tally) (table : List (List ℕ)) (
   pub rest : (k : ℕ) → k < S .doses → getD (t .remaining) k false ≡ remaining (classesIn t) (t .class) k
   pub counted : size (S .doses) (remaining (classesIn t) (t .class)) + t .classed ≡ S .doses
   pub each : t .class ≤ t .classed
-  pub later : (k i : ℕ) → k < S .doses → t .class ≤ i → i < 24 → T (classesIn t i k) → ⊥
+  pub later : (k i : ℕ) → k < S .doses → t .class ≤ i → T (classesIn t i k) → ⊥
   pub grams : (i : ℕ) → i < t .class → getD (t .grams) i 0 ≡ W S (classesIn t i)
   pub time : (i : ℕ) → i < t .class → getD (t .time) i 0 ≡ classP S F (classesIn t) i
   pub rows : (i j : ℕ) → i < t .class → j < S .intervals → rowAt table i j ≡ classes.reserved S F (classesIn t) i j

@@ -4,6 +4,7 @@ mod sequence; // sequence.rt: which dose is filled first
 mod table; // table.rt: reservations
 mod top; // top.rt: refusal 9
 
+use measure::first_set;
 use measure::size_of;
 use order::Order;
 use rounds::Class;
@@ -16,7 +17,6 @@ use steps::excess;
 use steps::without;
 use table::free_fans;
 use table::reserve;
-use top::first_set;
 use top::not_above;
 ghost use mathlib.Core.Path.{_≡_};
 ghost use mathlib.Core.Bool.{false, not, _&&_};
@@ -35,7 +35,7 @@ fn choose_share(test: bool, a: u64, b: u64) -> u64
     if test { a } else { b }
 }
 
-fn choose_number(test: bool, a: u8, b: u8) -> u8
+fn choose_number(test: bool, a: u32, b: u32) -> u32
     ensures { λ r. ⌜ r ≡ choose test a b ⌝ }
 {
     if test { a } else { b }
@@ -53,12 +53,13 @@ fn keep_shares(shares: &mut [u64], x: &[u64], members: [bool; 24])
     }
 }
 
-// The phases so far: "remaining doses, class number and counts", with the class of each dose (24: none yet) and W and P of each class.
+// The phases so far: "remaining doses, class number and counts", with the class number of each dose (0: none yet) and W and P of
+// each class.
 pub struct Tally {
     pub remaining: [bool; 24],
     pub class: usize,
     pub classed: u64,
-    pub numbers: [u8; 24],
+    pub numbers: [u32; 24],
     pub grams: [u64; 24],
     pub time: [u64; 24],
 }
@@ -75,10 +76,10 @@ fn left_of(remaining: [bool; 24], members: [bool; 24]) -> [bool; 24]
     left
 }
 
-fn numbered(before: [u8; 24], members: [bool; 24], class: u8) -> [u8; 24]
+fn numbered(before: [u32; 24], members: [bool; 24], class: u32) -> [u32; 24]
     ensures { λ r. ⌜ ((k : ℕ) → k < 24 → getD r k 0 ≡ choose (getD members k false) class (getD before k 0)) ⌝ }
 {
-    let mut numbers = [0u8; 24];
+    let mut numbers = [0u32; 24];
     let mut k = 0;
     while k < 24 {
         numbers[k] = choose_number(members[k], class, before[k]);
@@ -110,7 +111,7 @@ impl Tally {
             remaining: every(doses),
             class: 0,
             classed: 0,
-            numbers: [24; 24],
+            numbers: [0; 24],
             grams: [0; 24],
             time: [0; 24],
         }
@@ -126,7 +127,7 @@ impl Tally {
         let rest = self.remaining;
         let remaining = left_of(rest, members);
         let before = self.numbers;
-        let numbers = numbered(before, members, number as u8);
+        let numbers = numbered(before, members, number as u32 + 1);
         let mut grams = self.grams;
         grams[number] = class.grams;
         let mut time = self.time;

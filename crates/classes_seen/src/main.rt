@@ -6,6 +6,7 @@ use libc::STDIN_FILENO;
 use libc::STDOUT_FILENO;
 use order::Order;
 use std::num::wrapping_add_u64;
+use steps::index;
 use steps::of_byte;
 use steps::on;
 use steps::wide;
@@ -27,12 +28,16 @@ fn refused(n: u32, place: usize) {
     number(place as u64);
 }
 
-// The class of dose k; 24 where there is none.
+// The place of dose k's class among the classes, one below its number; 24 where there is none.
 fn class_of(t: Tally, k: usize) -> usize {
     if 24 <= k {
         return 24;
     }
-    t.numbers[k] as usize
+    let number = index(t.numbers[k]);
+    if number < 1 {
+        return 24;
+    }
+    number - 1
 }
 
 // W of class i.

@@ -6,12 +6,13 @@ use mathlib.Core.List.{List}
 use Prim.Native.Nat.{ℕ, zero, suc, _+_, _-_, _*_, _/_, _%_, _<_, _≤_, min}
 use lib.Dec.{eqb, leb, ltb}
 use lib.ListN.{length, getD}
-use Rattle.model.specs.Sets.{Doses, on, sum, weight}
+use Rattle.model.specs.Sets.{on, sum, weight}
 use Rattle.model.specs.Records.{pick, recordSize, classKind, slotKind, blankAt, classParts, slotParts, recordAt}
 use Rattle.model.specs.Orders.{Order, doseAt}
 use Rattle.model.specs.Intervals.{instantAt, intervalCount}
 use Rattle.model.specs.Classes.{Setting, Row, W, classP}
 use Rattle.model.specs.Plans.{Class, Slot}
+use Rattle.sheet.specs.Sheet.{setsOf}
 use Rattle.model.specs.Stands.{Between, EndsBy, NoOverlap, starts, ends, unitsOf}
 use Rattle.records.specs.Plan.{classIn, slotIn, kindAt}
 
@@ -58,10 +59,6 @@ settingIn h = record {
 -- its fans, in every interval
 abbrev pub fansIn : Sheet → Row
 fansIn h j = h .fans
-
--- class i by the class number of each dose
-abbrev pub setsOf : List ℕ → ℕ → Doses
-setsOf numbers i k = eqb (getD numbers k 0) (i + 1)
 
 -- the first interval that ends after tick t, of n from interval j on
 unfoldable pub scan : List ℕ → ℕ → ℕ → ℕ → ℕ

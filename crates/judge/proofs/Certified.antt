@@ -29,7 +29,8 @@ use Rattle.model.proofs.Lists.{All-of, Pairs-of, length-singles, total-at}
 use Rattle.model.proofs.PlanPieces.{noSlot}
 use Rattle.model.proofs.Judging.{certified-classes, certified-stands}
 use Rattle.records.specs.Plan.{classIn, slotIn}
-use Rattle.clauses.specs.Tests.{InTurn, Passes, Sheet, SheetOf, SlotFits, by-fan, by-interval, by-time, placeIn, setsOf, unitsUpTo}
+use Rattle.clauses.specs.Tests.{InTurn, Passes, Sheet, SheetOf, SlotFits, by-fan, by-interval, by-time, placeIn, unitsUpTo}
+use Rattle.sheet.specs.Sheet.{setsOf}
 use Rattle.judge.proofs.Rows.{class-row, gather-at, noClass, noRecord, plan-class, plan-length, plan-slot, rows-read, slot-row}
 use Rattle.slots.proofs.Places.{ends-apart, turns-all}
 use Rattle.judge.proofs.Sheets.{instants-up, same-grams, same-size, same-time}

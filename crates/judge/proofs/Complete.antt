@@ -28,7 +28,8 @@ use Rattle.model.proofs.ValidShares.{class-open}
 use Rattle.model.proofs.DrawnLine.{class-of}
 use Rattle.model.proofs.PlanPieces.{noSlot}
 use Rattle.records.specs.Plan.{classIn, slotIn}
-use Rattle.clauses.specs.Tests.{ClassFits, ClassRow, InTurn, Leads, Numbers, Passes, Sheet, SheetOf, SlotFits, SlotLong, SlotRow, by-fan, by-interval, by-time, placeIn, setsOf, unitsUpTo}
+use Rattle.clauses.specs.Tests.{ClassFits, ClassRow, InTurn, Leads, Numbers, Passes, Sheet, SheetOf, SlotFits, SlotLong, SlotRow, by-fan, by-interval, by-time, placeIn, unitsUpTo}
+use Rattle.sheet.specs.Sheet.{setsOf}
 use Rattle.judge.proofs.Rows.{gather-at, noClass, plan-class, plan-length, plan-slot, read-rows, row-class, row-slot}
 use Rattle.slots.proofs.Places.{place-at, tick-before, tick-from}
 use Rattle.judge.proofs.Sheets.{instants-up, same-grams, same-size, same-time}

@@ -27,7 +27,8 @@ use Rattle.interval.specs.declared.Instants.{Instants}
 use Rattle.interval.specs.Held.{InstantsOf}
 use Rattle.interval.proofs.Laws.{count-is, instant-is}
 use Rattle.records.specs.Plan.{classIn}
-use Rattle.clauses.specs.Tests.{Finds, Passes, Sheet, SheetOf, setsOf, sheet}
+use Rattle.clauses.specs.Tests.{Finds, Passes, Sheet, SheetOf, sheet}
+use Rattle.sheet.specs.Sheet.{setsOf}
 use Rattle.judge.specs.Verdict.{Against, Certifies, Leader, fast, fastBy, slow}
 use Rattle.judge.specs.declared.Judged.{Judged}
 use Rattle.judge.specs.declared.Judged.the-variants as is

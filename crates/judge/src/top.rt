@@ -1,33 +1,13 @@
 // Refusal 9: "first class: W × top seconds above P × top grams".
 use crate::Judged;
+use measure::first_set;
 use order::Order;
 use records::class_at;
 use steps::excess;
-use steps::on;
 use steps::wide;
-ghost use mathlib.Core.Path.{_≡_};
-ghost use Prim.Native.Nat.{_≤_};
 ghost use Rattle.model.proofs.Orders.{Fit};
-ghost use Rattle.model.specs.Classes.{setNumber};
 ghost use Rattle.order.specs.Held.{asOrder};
-ghost use Rattle.clauses.specs.Tests.{setsOf};
 ghost use Rattle.judge.specs.Verdict.{Against, Leader};
-
-// "the first class as a number with bit i for dose i".
-fn first_set(numbers: [u32; 24], doses: usize) -> u64
-    requires { ⌜ doses ≤ 24 ⌝ }
-    ensures { λ r. ⌜ r ≡ setNumber doses (setsOf numbers 0) ⌝ }
-{
-    let mut sum: u64 = 0;
-    let mut bit: u64 = 1;
-    let mut k = 0;
-    while k < doses {
-        sum += on(numbers[k] == 1, bit);
-        bit = bit * 2;
-        k += 1;
-    }
-    sum
-}
 
 // A plan that stands names the order's first class in its first record.
 pub fn against_top(o: Order, plan: &[u8], classes: usize, numbers: [u32; 24]) -> Judged

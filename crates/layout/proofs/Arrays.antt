@@ -13,19 +13,20 @@ use Rattle.model.specs.Lists.{gather}
 use Rattle.model.specs.Plans.{Slot, slotRecord}
 use Rattle.model.specs.Layout.{Lane, intervalSlots, lane, laneSlots, tableSlots}
 use Rattle.model.proofs.Lists.{sum-before}
+use Rattle.sheet.specs.Sheet.{setsOf}
 use Rattle.layout.specs.declared.Tables.{Tables}
 use Rattle.layout.specs.Held.{fansAt, laneAt, lenAt, shareAt, tableFrom}
 use Rattle.layout.specs.Laying.{Filled, Rooms, Wrote}
 use Rattle.layout.proofs.Runs.{gather-fits, gather-more, gather-none}
 
--- the share of a dose of class c in class i
-pub share-mine : (c i v : ℕ) → c ≡ i → v ≡ on (eqb c i) v
-share-mine c i v e = rw (eq-eqb c i e)
+-- the share of a dose whose class has number c, in the class of number n
+pub share-mine : (c n v : ℕ) → c ≡ n → v ≡ on (eqb c n) v
+share-mine c n v e = rw (eq-eqb c n e)
 
-pub share-other : (c i v : ℕ) → (c ≡ i → ⊥) → 0 ≡ on (eqb c i) v
-share-other c i v e = rw (ne-eqb c i e)
+pub share-other : (c n v : ℕ) → (c ≡ n → ⊥) → 0 ≡ on (eqb c n) v
+share-other c n v e = rw (ne-eqb c n e)
 
-pub share-is : (t : Tables) (x : List ℕ) (i k j : ℕ) {s : ℕ} → s ≡ on (eqb (getD (t .«class_of») k 0) i) (getD x (k * 47 + j) 0) → s ≡ shareAt t x i k j
+pub share-is : (t : Tables) (x : List ℕ) (i k j : ℕ) {s : ℕ} → s ≡ on (setsOf (t .«class_of») i k) (getD x (k * 47 + j) 0) → s ≡ shareAt t x i k j
 unfolding shareAt
 share-is t x i k j e = e
 

@@ -2,6 +2,7 @@
 use records::RECORD_SIZE;
 use records::Slot;
 use records::put_slot;
+use steps::index;
 use steps::of_byte;
 ghost use mathlib.Core.Path.{_≡_};
 ghost use mathlib.Core.List.{map};
@@ -26,7 +27,8 @@ pub struct Lane {
     pub below: u32,
 }
 
-// What shares are laid by: how many doses, classes and intervals; the instants that bound the intervals; W and P of each class; each dose's class.
+// What shares are laid by: how many doses, classes and intervals; the instants that bound the intervals; W and P of each class; the number of each
+// dose's class.
 pub struct Tables {
     pub doses: usize,
     pub classes: usize,
@@ -34,7 +36,7 @@ pub struct Tables {
     pub instants: [u32; 48],
     pub grams: [u32; 24],
     pub time: [u32; 24],
-    pub class_of: [u8; 24],
+    pub class_of: [u32; 24],
 }
 
 // The slot from unit low up to unit high of a fan's stretch: "A moment is a tick plus part/W, part below W."
@@ -83,11 +85,11 @@ fn lay_share(b: &mut [u8], r: usize, l: Lane, dose: u32, a: u64, x: u64) -> usiz
 }
 
 // The share of dose k in class i and interval j: none where the dose is of another class.
-fn share_of(class: u8, shares: &[u64], i: usize, k: usize, j: usize) -> u64
-    requires { ⌜ (k < 24) × (j < 47) × (length (now shares) ≡ 1128) ⌝ }
-    ensures { λ r. ⌜ r ≡ on (eqb class i) (getD (now (shares .entry)) (k * 47 + j) 0) ⌝ }
+fn share_of(class: u32, shares: &[u64], i: usize, k: usize, j: usize) -> u64
+    requires { ⌜ (i < 24) × (k < 24) × (j < 47) × (length (now shares) ≡ 1128) ⌝ }
+    ensures { λ r. ⌜ r ≡ on (eqb class (i + 1)) (getD (now (shares .entry)) (k * 47 + j) 0) ⌝ }
 {
-    if class as usize == i {
+    if index(class) == i + 1 {
         return shares[k * 47 + j];
     }
     0
@@ -103,7 +105,7 @@ fn lay_class(
     i: usize,
     j: usize,
 ) -> usize
-    requires { ⌜ Rooms (asLane l) (λ k. shareAt t (now shares) i k j) (t .doses) r (length (now b)) × (t .doses ≤ 24) × (j < 47) × (length (now shares) ≡ 1128) ⌝ }
+    requires { ⌜ Rooms (asLane l) (λ k. shareAt t (now shares) i k j) (t .doses) r (length (now b)) × (t .doses ≤ 24) × (i < 24) × (j < 47) × (length (now shares) ≡ 1128) ⌝ }
     ensures { λ q. ⌜ Wrote slotRecord (laneSlots (asLane l) (λ k. shareAt t (now (shares .entry)) i k j) (t .doses)) (now (b .entry)) r (now (b .exit)) q ⌝ }
 {
     let mut at = r;

@@ -1,11 +1,16 @@
--- Two answers of `open_fans` are one array: its promise settles every interval. Assumes nothing.
-use mathlib.Core.Bool.{Bool}
+-- Two answers of a function of `measure` are one array: its promise settles every place. Assumes nothing.
+use mathlib.Core.Bool.{Bool, false}
 use mathlib.Core.List.{List}
 use mathlib.Core.Path.{_≡_}
-use Prim.Native.Nat.{ℕ}
-use lib.ListN.{length}
+use Prim.Native.Nat.{ℕ, _<_}
+use lib.ListN.{length, getD}
 use Rattle.steps.proofs.Arrays.{filled-one}
+use Rattle.sheet.specs.Sheet.{setsOf}
 use Rattle.measure.specs.Measure.{Opens}
+
+pub set-one : (numbers : List ℕ) (i : ℕ) {r r′ : List Bool} → length r ≡ 24 → length r′ ≡ 24
+    → ((k : ℕ) → k < 24 → getD r k false ≡ setsOf numbers i k) → ((k : ℕ) → k < 24 → getD r′ k false ≡ setsOf numbers i k) → r ≡ r′
+set-one numbers i l l′ a b = filled-one false 24 l l′ a b
 
 pub opens-one : (active : List Bool) (n : ℕ) (set : List Bool) (free : List ℕ) {r r′ : List ℕ} → length r ≡ 47 → length r′ ≡ 47
     → Opens active n set free r → Opens active n set free r′ → r ≡ r′

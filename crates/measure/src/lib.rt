@@ -1,12 +1,45 @@
 // What a set of doses weighs and opens (document 01, "From doses to classes").
+use steps::index;
 use steps::on;
 use steps::smaller;
 ghost use mathlib.Core.Path.{_≡_};
-ghost use Prim.Native.Nat.{_*_, _<_, _≤_};
+ghost use mathlib.Core.Bool.{false};
+ghost use Prim.Native.Nat.{ℕ, _*_, _<_, _≤_};
 ghost use lib.ListN.{getD};
 ghost use Rattle.model.specs.Sets.{sum, weight};
-ghost use Rattle.sheet.specs.Sheet.{setOf, Below};
+ghost use Rattle.model.specs.Classes.{setNumber};
+ghost use Rattle.sheet.specs.Sheet.{setOf, setsOf, Below};
 ghost use Rattle.measure.specs.Measure.{countIn, Opens};
+
+// The doses of class i, by the number that each dose's class has.
+pub fn set_of(numbers: &[u32; 24], i: usize) -> [bool; 24]
+    requires { ⌜ i < 24 ⌝ }
+    ensures { λ r. ⌜ ((k : ℕ) → k < 24 → getD r k false ≡ setsOf (now (numbers .entry)) i k) ⌝ }
+{
+    let mut set = [false; 24];
+    let mut k = 0;
+    while k < 24 {
+        set[k] = index(numbers[k]) == i + 1;
+        k += 1;
+    }
+    set
+}
+
+// "the first class as a number with bit i for dose i".
+pub fn first_set(numbers: [u32; 24], doses: usize) -> u64
+    requires { ⌜ doses ≤ 24 ⌝ }
+    ensures { λ r. ⌜ r ≡ setNumber doses (setsOf numbers 0) ⌝ }
+{
+    let mut sum: u64 = 0;
+    let mut bit: u64 = 1;
+    let mut k = 0;
+    while k < doses {
+        sum += on(numbers[k] == 1, bit);
+        bit = bit * 2;
+        k += 1;
+    }
+    sum
+}
 
 // "W(A) is the sum of grams of A."
 pub fn grams_of(grams: &[u64; 24], doses: usize, set: [bool; 24]) -> u64

@@ -17,33 +17,33 @@ use Rattle.order.proofs.Fields.{doses-is}
 use Rattle.interval.specs.declared.Instants.{Instants}
 use Rattle.interval.specs.Held.{InstantsOf}
 use Rattle.interval.proofs.Laws.{count-is, instant-is}
-use Rattle.classes.specs.Phase.{classOf}
+use Rattle.sheet.specs.Sheet.{setsOf}
 use Rattle.layout.specs.declared.Tables.{Tables}
 use Rattle.layout.specs.Held.{fansAt, shareAt}
 use Rattle.plan.specs.Held.{Holds, TablesOf}
 
 -- the shares of class i
 abbrev sharesBy : List ℕ → List ℕ → ℕ → ℕ → ℕ → ℕ
-sharesBy numbers shares i k j = on (classOf numbers i k) (getD shares (k * 47 + j) 0)
+sharesBy numbers shares i k j = on (setsOf numbers i k) (getD shares (k * 47 + j) 0)
 
 module _ {o : code.Order} (fit : Fit (asOrder o)) {s : Instants} (bounds : InstantsOf o s) {p : ℕ} {numbers grams time : List ℕ} {t : Tables}
     (made : TablesOf (o .count) s p numbers grams time t)
-    (found : Classes (settingOf (asOrder o)) (fansPresent (asOrder o)) p (classOf numbers))
-    (weighed : (i : ℕ) → i < p → getD grams i 0 ≡ W (settingOf (asOrder o)) (classOf numbers i))
-    (timed : (i : ℕ) → i < p → getD time i 0 ≡ classP (settingOf (asOrder o)) (fansPresent (asOrder o)) (classOf numbers) i) where
+    (found : Classes (settingOf (asOrder o)) (fansPresent (asOrder o)) p (setsOf numbers))
+    (weighed : (i : ℕ) → i < p → getD grams i 0 ≡ W (settingOf (asOrder o)) (setsOf numbers i))
+    (timed : (i : ℕ) → i < p → getD time i 0 ≡ classP (settingOf (asOrder o)) (fansPresent (asOrder o)) (setsOf numbers) i) where
   few : (i : ℕ) → i < p → i < 24
-  few i l = omega (arith, few-classes (settingOf (asOrder o)) (fansPresent (asOrder o)) p (classOf numbers) found, fit .few)
+  few i l = omega (arith, few-classes (settingOf (asOrder o)) (fansPresent (asOrder o)) p (setsOf numbers) found, fit .few)
 
-  grams-held : (i : ℕ) → i < p → getD (t .grams) i 0 ≡ W (settingOf (asOrder o)) (classOf numbers i)
-  grams-held i l = omega (arith, made .grams-is i (few i l), weighed i l, grams-most (asOrder o) fit p (classOf numbers) (classOf numbers i))
+  grams-held : (i : ℕ) → i < p → getD (t .grams) i 0 ≡ W (settingOf (asOrder o)) (setsOf numbers i)
+  grams-held i l = omega (arith, made .grams-is i (few i l), weighed i l, grams-most (asOrder o) fit p (setsOf numbers) (setsOf numbers i))
 
-  time-held : (i : ℕ) → i < p → getD (t .time) i 0 ≡ classP (settingOf (asOrder o)) (fansPresent (asOrder o)) (classOf numbers) i
-  time-held i l = omega (arith, made .time-is i (few i l), timed i l, time-most (asOrder o) fit p (classOf numbers) i)
+  time-held : (i : ℕ) → i < p → getD (t .time) i 0 ≡ classP (settingOf (asOrder o)) (fansPresent (asOrder o)) (setsOf numbers) i
+  time-held i l = omega (arith, made .time-is i (few i l), timed i l, time-most (asOrder o) fit p (setsOf numbers) i)
 
   -- the tables hold the order's classes and shares
   pub tables-hold : {shares : List ℕ} {rows : List (List ℕ)} → ((i j : ℕ) → i < p → j < settingOf (asOrder o) .intervals
-      → fansAt rows i j ≡ reserved (settingOf (asOrder o)) (fansPresent (asOrder o)) (classOf numbers) i j)
-      → length shares ≡ 1128 → ValidShares (asOrder o) p (classOf numbers) (sharesBy numbers shares) → Holds (asOrder o) t shares rows
+      → fansAt rows i j ≡ reserved (settingOf (asOrder o)) (fansPresent (asOrder o)) (setsOf numbers) i j)
+      → length shares ≡ 1128 → ValidShares (asOrder o) p (setsOf numbers) (sharesBy numbers shares) → Holds (asOrder o) t shares rows
   unfolding shareAt
   tables-hold rowed size shared = rw (made .classes-is, made .class-of-is, made .instants-is) (record {
     doses = made .doses-is ∙ doses-is o;

@@ -2,7 +2,6 @@
 use mathlib.Core.Path.{_≡_}
 use mathlib.Core.List.{List, [], _∷_}
 use Prim.Native.Nat.{ℕ, _+_, _-_, _%_, _<_, _≤_}
-use lib.Dec.{eqb}
 use lib.ListN.{getD, length}
 use Rattle.model.specs.Sets.{Doses, weight}
 use Rattle.model.specs.Lists.{gather}
@@ -13,12 +12,13 @@ use Rattle.model.specs.Plans.{Class, planOf, recordsBytes}
 use Rattle.model.specs.Layout.{tableSlots}
 use Rattle.model.specs.Answers.{ValidShares}
 use Rattle.interval.specs.declared.Instants.{Instants}
+use Rattle.sheet.specs.Sheet.{setsOf}
 use Rattle.layout.specs.declared.Tables.{Tables}
 use Rattle.layout.specs.Held.{fansAt, shareAt, tableFrom}
 
 -- class i has the doses whose class it is
 abbrev pub membersFrom : Tables → ℕ → Doses
-membersFrom t i k = eqb (getD (t .«class_of») k 0) i
+membersFrom t = setsOf (t .«class_of»)
 
 -- "1 class number from 1; 2-3 doses in it; 4-7 W; 8-11 P"
 unfoldable pub classFrom : Tables → ℕ → Class

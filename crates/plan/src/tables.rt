@@ -23,7 +23,7 @@ pub fn tables_of(
     doses: usize,
     s: Instants,
     classes: usize,
-    class_of: [u8; 24],
+    class_of: [u32; 24],
     grams: [u64; 24],
     time: [u64; 24],
 ) -> Tables

@@ -1,49 +1,31 @@
 // The records of a plan in the lent buffer: "classes by number, then slots by interval, fan, start".
 use layout::Tables;
+use measure::set_of;
+use measure::size_of;
 use records::Class;
 use records::RECORD_SIZE;
 ghost use mathlib.Core.Path.{_≡_};
 ghost use Prim.Native.Nat.{_+_, _*_, _<_, _≤_};
 ghost use lib.ListN.{length};
 ghost use Rattle.model.specs.Records.{recordSize};
-ghost use Rattle.model.specs.Sets.{on, weight};
 ghost use Rattle.model.specs.Plans.{classRecord};
 ghost use Rattle.model.specs.Layout.{tableSlots};
 ghost use Rattle.model.specs.Answers.{overwritten};
 ghost use Rattle.records.specs.Held.{asClass};
 ghost use Rattle.layout.specs.Held.{tableFrom};
 ghost use Rattle.layout.specs.Laying.{Filled, Wrote};
-ghost use Rattle.plan.specs.Held.{membersFrom, classFrom, classesFrom, bytesFrom};
-
-fn one_if(test: bool) -> u32
-    ensures { λ r. ⌜ (r ≡ on test 1) × (r ≤ 1) ⌝ }
-{
-    if test { 1 } else { 0 }
-}
-
-// "doses in it": how many doses are of class i.
-fn doses_in(t: Tables, i: usize) -> u32
-    requires { ⌜ t .doses ≤ 24 ⌝ }
-    ensures { λ r. ⌜ r ≡ weight (t .doses) (λ k. 1) (membersFrom t i) ⌝ }
-{
-    let mut count: u32 = 0;
-    let mut k = 0;
-    while k < t.doses {
-        let mine = t.class_of[k] as usize == i;
-        count += one_if(mine);
-        k += 1;
-    }
-    count
-}
+ghost use Rattle.plan.specs.Held.{classFrom, classesFrom, bytesFrom};
 
 // "1 class number from 1; 2-3 doses in it; 4-7 W; 8-11 P"
 fn class_at(t: Tables, i: usize) -> Class
     requires { ⌜ (t .doses ≤ 24) × (i < 24) ⌝ }
     ensures { λ r. ⌜ asClass r ≡ classFrom t i ⌝ }
 {
+    let class_of = t.class_of;
+    let set = set_of(&class_of, i);
     Class {
         number: i as u32 + 1,
-        doses: doses_in(t, i),
+        doses: size_of(t.doses, set) as u32,
         grams: t.grams[i],
         time: t.time[i],
     }

@@ -10,7 +10,8 @@ use Rattle.model.specs.Sets.{sum, weight}
 use Rattle.model.specs.Classes.{P, W, classP, free, openFans}
 use Rattle.model.specs.Plans.{Class}
 use Rattle.model.proofs.Sums.{sum-congr}
-use Rattle.clauses.specs.Tests.{ClassFits, Opens, Says, Sheet, Tells, fansIn, setsOf, settingIn}
+use Rattle.clauses.specs.Tests.{ClassFits, Opens, Says, Sheet, Tells, fansIn, settingIn}
+use Rattle.sheet.specs.Sheet.{setsOf}
 use Rattle.clauses.proofs.Tell.{tells-by}
 
 -- the array has the fans that the first i classes leave

@@ -18,7 +18,8 @@ ghost use Rattle.model.specs.Sets.{sum, weight};
 ghost use Rattle.model.specs.Sets as sets;
 ghost use Rattle.records.specs.Held.{asClass};
 ghost use Rattle.records.specs.Plan.{classIn};
-ghost use Rattle.clauses.specs.Tests.{Tells, ClassFits, Falls, setsOf, sheet, Says, Opens};
+ghost use Rattle.clauses.specs.Tests.{Tells, ClassFits, Falls, sheet, Says, Opens};
+ghost use Rattle.sheet.specs.Sheet.{setsOf};
 
 // How many doses class i has.
 fn size_in(numbers: &[u32; 24], doses: usize, i: usize) -> u64

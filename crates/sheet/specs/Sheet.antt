@@ -3,7 +3,7 @@ use mathlib.Core.Path.{_≡_}
 use mathlib.Core.Bool.{Bool, false, _&&_}
 use mathlib.Core.List.{List}
 use Prim.Native.Nat.{ℕ, _+_, _*_, _/_, _%_, _<_, _≤_}
-use lib.Dec.{ltb}
+use lib.Dec.{eqb, ltb}
 use lib.ListN.{getD}
 use Rattle.model.specs.Sets.{Doses}
 use Rattle.model.specs.Classes.{Setting, Row}
@@ -33,6 +33,10 @@ ActiveIn o s J active =
 -- the set that an array of marks holds
 abbrev pub setOf : List Bool → Doses
 setOf marks k = getD marks k false
+
+-- the doses of class i, by the number that each dose's class has in its record: "class number from 1", and 0 for none
+abbrev pub setsOf : List ℕ → ℕ → Doses
+setsOf numbers i k = eqb (getD numbers k 0) (i + 1)
 
 -- dose k is active in interval j
 abbrev pub activeOf : List Bool → ℕ → ℕ → Bool

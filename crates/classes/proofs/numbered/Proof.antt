@@ -22,11 +22,17 @@ loop-holds c = (omega arith, search needs, λ k h. absurd (omega arith))
 array-read-choose-number : tie.Need-array-read-choose-number Inv-loop μ-loop
 array-read-choose-number c = search needs
 
+mul-choose-number : tie.Need-mul-choose-number Inv-loop μ-loop
+mul-choose-number c = search needs
+
 array-read-choose-number-2 : tie.Need-array-read-choose-number-2 Inv-loop μ-loop
 array-read-choose-number-2 c = search needs
 
 choose-number-requires : tie.Need-choose-number-requires Inv-loop μ-loop
 choose-number-requires c κs = search needs
+
+mul-numbers : tie.Need-mul-numbers Inv-loop μ-loop
+mul-numbers c = search needs
 
 array-write-numbers : tie.Need-array-write-numbers Inv-loop μ-loop
 array-write-numbers c = search needs
@@ -54,8 +60,10 @@ numbered-spec =
     μ-loop
     loop-holds
     array-read-choose-number
+    mul-choose-number
     array-read-choose-number-2
     choose-number-requires
+    mul-numbers
     array-write-numbers
     add-k
     loop-less

@@ -6,7 +6,7 @@ use native.Mathlib.Omega.{arith}
 use borrow.Author.Needs.{needs}
 use Rattle.model.specs.Classes.{setNumber}
 use Rattle.order.specs.Held.{asOrder}
-use Rattle.classes.specs.Phase.{classOf}
+use Rattle.sheet.specs.Sheet.{setsOf}
 use Rattle.order.proofs.Fields.{doses-is, top-grams-is, top-seconds-is, few-doses}
 use Rattle.classes.proofs.OverTop.{no-first, grams-fit, time-fit, slow-if, too-fast-above, too-fast-not}
 use Rattle.classes.proofs.too_fast.Statement.{statement}
@@ -63,7 +63,7 @@ returns-3 c =
     let of = c .before .before .before .before .before .before .before .pre .1 in
     let some : 0 < A .t2 .class = omega (arith, c .before .before .before .before .before .before .if1 .left) in
     let h : getD (A .t2 .time) 0 0 * asOrder (A .o) .topGrams < getD (A .t2 .grams) 0 0 * asOrder (A .o) .topSeconds = omega (arith, c .before .before .if2 .left, c .before .before .before .excess .ensures, ap (λ (y : ℕ). getD (A .t2 .grams) 0 0 * y) (top-seconds-is (A .o)), ap (λ (y : ℕ). getD (A .t2 .time) 0 0 * y) (top-grams-is (A .o))) in
-    too-fast-above (asOrder (A .o)) fit (A .t2) of some (c .first-set .result) (c .first-set .ensures ∙ ap (λ (m : ℕ). setNumber m (classOf (A .t2 .numbers) 0)) (doses-is (A .o))) h
+    too-fast-above (asOrder (A .o)) fit (A .t2) of some (c .first-set .result) (c .first-set .ensures ∙ ap (λ (m : ℕ). setNumber m (setsOf (A .t2 .numbers) 0)) (doses-is (A .o))) h
 
 pub too-fast-spec : {M : Type 1} → statement M
 too-fast-spec =

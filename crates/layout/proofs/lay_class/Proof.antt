@@ -18,6 +18,9 @@ abbrev μ-loop : tie.MeasureT-loop
 loop-holds : tie.Need-loop-holds Inv-loop μ-loop
 loop-holds c = (omega arith, refl, kept-none _ _ _ _)
 
+mul-share-of : tie.Need-mul-share-of Inv-loop μ-loop
+mul-share-of c = omega arith
+
 element-copy-out-share-of : tie.Need-element-copy-out-share-of Inv-loop μ-loop
 element-copy-out-share-of c = omega arith
 
@@ -55,6 +58,7 @@ lay-class-spec =
     Inv-loop
     μ-loop
     loop-holds
+    mul-share-of
     element-copy-out-share-of
     share-of-requires
     cast-lay-share

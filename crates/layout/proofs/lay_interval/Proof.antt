@@ -21,7 +21,7 @@ lane-of-requires : tie.Need-lane-of-requires Inv-loop μ-loop
 lane-of-requires c κs = (omega (arith, c .before .before .before .before .before .before .pre .0 .classes), omega (arith, c .before .before .before .before .before .before .pre .0 .intervals), le-of-lt (c .before .before .before .before .before .before .pre .0 .wide _ (c .before .before .before .before .before .before .pre .1)))
 
 lay-class-requires : tie.Need-lay-class-requires Inv-loop μ-loop
-lay-class-requires c κs = (rooms-at (c .before .before .before .before .before .before .before .pre .0) (c .before .before .before .before .loop .inv .2) (c .before .before .before .before .before .before .before .pre .1) (omega arith) (c .before .before .before .before .before .before .before .pre .2) (omega arith) (c .lane-of .ensures), c .before .before .before .before .before .before .before .pre .0 .doses, omega (arith, c .before .before .before .before .before .before .before .pre .0 .intervals), c .before .before .before .before .before .before .before .pre .0 .size)
+lay-class-requires c κs = (rooms-at (c .before .before .before .before .before .before .before .pre .0) (c .before .before .before .before .loop .inv .2) (c .before .before .before .before .before .before .before .pre .1) (omega arith) (c .before .before .before .before .before .before .before .pre .2) (omega arith) (c .lane-of .ensures), c .before .before .before .before .before .before .before .pre .0 .doses, omega (arith, c .before .before .before .before .before .before .before .pre .0 .classes), omega (arith, c .before .before .before .before .before .before .before .pre .0 .intervals), c .before .before .before .before .before .before .before .pre .0 .size)
 
 mul-of-byte : tie.Need-mul-of-byte Inv-loop μ-loop
 mul-of-byte c = omega (arith, c .before .before .before .before .before .before .before .before .before .before .pre .0 .classes)

@@ -9,7 +9,7 @@ use borrow.Author.Tests.{eq-eqb, ne-eqb}
 use lib.Dec.{leb}
 use lib.ListN.{getD, getD-replicate}
 use Rattle.model.specs.Sets.{on, weight}
-use Rattle.clauses.specs.Tests.{setsOf}
+use Rattle.sheet.specs.Sheet.{setsOf}
 use Rattle.steps.proofs.Tests.{on-most}
 use Rattle.steps.proofs.Loops.{at-end, weight-more, weight-none}
 use Rattle.rates.proofs.active_row.Statement.{statement}

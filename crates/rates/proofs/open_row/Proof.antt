@@ -5,7 +5,8 @@ use Prim.Native.Nat.{ℕ, _+_, _-_, _≤_, min}
 use lib.Dec.{leb}
 use lib.ListN.{getD, length}
 use Rattle.model.specs.Sets.{on, weight}
-use Rattle.clauses.specs.Tests.{Opens, setsOf}
+use Rattle.clauses.specs.Tests.{Opens}
+use Rattle.sheet.specs.Sheet.{setsOf}
 use Rattle.steps.proofs.Loops.{at-end, stored, stored-most}
 use borrow.Author.Needs.{needs}
 use native.Mathlib.Omega.{arith}

@@ -3,7 +3,7 @@ use mathlib.Core.Path.{_≡_, ap, refl}
 use Prim.Native.Nat.{ℕ, _+_, _-_, _≤_}
 use lib.Dec.{eqb}
 use Rattle.model.specs.Sets.{weight}
-use Rattle.clauses.specs.Tests.{setsOf}
+use Rattle.sheet.specs.Sheet.{setsOf}
 use Rattle.steps.proofs.Loops.{at-end, weight-more, weight-none}
 use borrow.Author.Needs.{needs}
 use native.Mathlib.Omega.{arith}

@@ -14,6 +14,9 @@ left-of-requires c κs = search needs
 cast-numbered : tie.Need-cast-numbered
 cast-numbered c = search needs
 
+add-numbered : tie.Need-add-numbered
+add-numbered c = search needs
+
 numbered-requires : tie.Need-numbered-requires
 numbered-requires c κs = search needs
 
@@ -29,14 +32,14 @@ mul-time c = search needs
 array-write-time : tie.Need-array-write-time
 array-write-time c = search needs
 
-add-t13 : tie.Need-add-t13
-add-t13 c = search needs
+add-t14 : tie.Need-add-t14
+add-t14 c = search needs
 
 size-of-requires : tie.Need-size-of-requires
 size-of-requires c κs = search needs
 
-add-t19 : tie.Need-add-t19
-add-t19 c = search needs
+add-t20 : tie.Need-add-t20
+add-t20 c = search needs
 
 returns : tie.Need-returns
 returns c =
@@ -58,12 +61,13 @@ after-spec =
     (tie.spec
     left-of-requires
     cast-numbered
+    add-numbered
     numbered-requires
     mul-grams
     array-write-grams
     mul-time
     array-write-time
-    add-t13
+    add-t14
     size-of-requires
-    add-t19
+    add-t20
     returns)

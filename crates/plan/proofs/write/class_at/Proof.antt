@@ -1,43 +1,60 @@
--- `class_at` meets its contract: the number is i + 1, the doses are counted by `doses_in`, W and P stand at place i.
-use Rattle.plan.specs.Held.{classFrom}
+-- `class_at` meets its contract: the number is i + 1, the doses are those of its set, W and P stand at place i.
+use mathlib.Core.Path.{_∙_}
+use native.Mathlib.Omega.{arith}
+use Rattle.model.proofs.Sets.{weight-alike}
+use Rattle.sheet.specs.Sheet.{setOf}
+use Rattle.plan.specs.Held.{classFrom, membersFrom}
 use borrow.Author.Needs.{needs}
 use Rattle.plan.proofs.write.class_at.Statement.{statement}
 use Rattle.plan.proofs.write.class_at.Tie as tie
 
-cast-t4 : tie.Need-cast-t4
-cast-t4 c = search needs
+set-of-requires : tie.Need-set-of-requires
+set-of-requires c κs = search needs
 
-add-t5 : tie.Need-add-t5
-add-t5 c = search needs
+cast-t8 : tie.Need-cast-t8
+cast-t8 c = search needs
 
-doses-in-requires : tie.Need-doses-in-requires
-doses-in-requires c κs = search needs
+add-t9 : tie.Need-add-t9
+add-t9 c = search needs
 
-mul-t8 : tie.Need-mul-t8
-mul-t8 c = search needs
+size-of-requires : tie.Need-size-of-requires
+size-of-requires c κs = search needs
 
-element-copy-out-t11 : tie.Need-element-copy-out-t11
-element-copy-out-t11 c = search needs
+cast-t12 : tie.Need-cast-t12
+cast-t12 c = search needs
 
-mul-t12 : tie.Need-mul-t12
-mul-t12 c = search needs
+mul-t13 : tie.Need-mul-t13
+mul-t13 c = search needs
 
-element-copy-out-t15 : tie.Need-element-copy-out-t15
-element-copy-out-t15 c = search needs
+element-copy-out-t16 : tie.Need-element-copy-out-t16
+element-copy-out-t16 c = search needs
 
+mul-t17 : tie.Need-mul-t17
+mul-t17 c = search needs
+
+element-copy-out-t20 : tie.Need-element-copy-out-t20
+element-copy-out-t20 c = search needs
+
+-- the set counted is that of the doses of class i
 returns : tie.Need-returns
 unfolding classFrom
-returns c = rw (c .before .before .doses-in .ensures)
+returns c =
+    let A = c .before .before .before .before .before .before .args in
+    let marked = c .before .before .before .set-of in
+    let members = weight-alike (A .t1 .doses) (λ k. 1) (setOf (marked .result)) (membersFrom (A .t1) (A .i)) (λ k l. marked .ensures k (omega arith)) in
+    rw (c .before .before .size-of .ensures .0 ∙ members)
 
 pub class-at-spec : {M : Type 1} → statement M
 class-at-spec =
     tie.close
     (tie.spec
-    cast-t4
-    add-t5
-    doses-in-requires
-    mul-t8
-    element-copy-out-t11
-    mul-t12
-    element-copy-out-t15
+    set-of-requires
+    cast-t8
+    add-t9
+    size-of-requires
+    cast-t12
+    mul-t13
+    element-copy-out-t16
+    mul-t17
+    element-copy-out-t20
     returns)

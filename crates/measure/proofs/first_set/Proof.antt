@@ -3,12 +3,12 @@ use mathlib.Core.Path.{_≡_, refl}
 use Prim.Native.Nat.{ℕ, _-_, _<_, _≤_, _^_}
 use Rattle.model.specs.Sets.{weight}
 use Rattle.steps.proofs.Bits.{bits-next, bit-most}
-use Rattle.clauses.specs.Tests.{setsOf}
+use Rattle.sheet.specs.Sheet.{setsOf}
 use Rattle.steps.proofs.Loops.{at-end, weight-none}
 use borrow.Author.Needs.{needs}
 use native.Mathlib.Omega.{arith}
-use Rattle.judge.proofs.top.first_set.Statement.{statement}
-use Rattle.judge.proofs.top.first_set.Tie as tie
+use Rattle.measure.proofs.first_set.Statement.{statement}
+use Rattle.measure.proofs.first_set.Tie as tie
 
 abbrev Inv-loop : tie.InvT-loop
 Inv-loop doses numbers sum₀ bit₀ k₀ sum bit k = (k ≤ doses) × (sum ≡ weight k (λ i. 2 ^ i) (setsOf numbers 0)) × (bit ≡ 2 ^ k) × (sum < bit)
