@@ -13,7 +13,7 @@ use lib.ListN.{length, getD, replicate}
 use Rattle.model.specs.Sets.{sum, on, Doses, Nonempty}
 use Rattle.model.specs.Classes.{Setting, Row, W, P, NextClass, Classes, classP, reserved, remaining, free, openFans}
 use Rattle.model.specs.Shares.{Valid}
-use Rattle.model.proofs.Sums.{last, sum-congr}
+use Rattle.model.proofs.Sums.{last}
 use Rattle.model.proofs.Sets.{Alike, _∩_, and-left, and-right, and-both, same-test, on-no, on-yes, size, size-all, le-weight, weight-pos, weight-part, weight-alike}
 use Rattle.model.proofs.Same.{agree-refl, fans-same, time-same, valid-same, next-same}
 use Rattle.model.proofs.Sequence.{Found, found-none, found-more, found-all, remaining-alike, free-alike}
@@ -21,6 +21,7 @@ use Rattle.chains.specs.Chains.{cell}
 use Rattle.sheet.specs.Sheet.{setOf, activeOf, rowOf, settingFrom}
 use Rattle.sheet.proofs.Laws.{all-same}
 use Rattle.measure.specs.Measure.{Measured}
+use Rattle.measure.proofs.Free.{frees-sum}
 use Rattle.rounds.specs.Rounds.{Chosen}
 use Rattle.classes.specs.declared.Tally.{Tally}
 use Rattle.classes.specs.Phase.{choose, rowAt, classesIn, sharesIn, Start, Blank, Reserved, After, KeptShares, Past, SoFar}
@@ -50,12 +51,6 @@ blank = record { rows = rows-same 24; cells = λ i. all-same 1128 i 0 }
 all-remain : (C : ℕ → Doses) (k : ℕ) → remaining C 0 k ≡ true
 unfolding remaining
 all-remain C k = refl
-
--- the first classes leave the fans less what they reserve
-free-sum : (S : Setting) (F : Row) (C : ℕ → Doses) (i j : ℕ) → free S F C i j ≡ F j - sum i (λ l. reserved S F C l j)
-unfolding free sum
-free-sum S F C zero j = omega arith
-free-sum S F C (suc i) j = omega (arith, free-sum S F C i j)
 
 module _ (n J : ℕ) (active : List Bool) (lens grams : List ℕ) (F : Row) (few : n ≤ 24) (few′ : J ≤ 47) where
   abbrev S : Setting
@@ -91,8 +86,10 @@ module _ (n J : ℕ) (active : List Bool) (lens grams : List ℕ) (F : Row) (few
 
     module _ (free-row : List ℕ) (hf : (j : ℕ) → j < 47 → getD free-row j 0 ≡ F j - sum i (λ l. rowAt table l j)) where
       rows-here : (j : ℕ) → j < J → rowOf free-row j ≡ free S F C i j
-      rows-here j q =
-          hf j (omega arith) ∙ ap (λ (s : ℕ). F j - s) (sum-congr i (λ l m. so .rows l j m q)) ∙ sym (free-sum S F C i j)
+      rows-here = frees-sum S F C i free-row (rowAt table) so-rows (λ j q. hf j (omega arith)) .left
+        where
+          so-rows : (l j : ℕ) → l < i → j < J → rowAt table l j ≡ reserved S F C l j
+          so-rows l j m q = so .rows l j m q
 
       module _ (members : List Bool) (x reserved-fans : List ℕ) (w p : ℕ) (measured : Measured S (rowOf free-row) (setOf members) w p reserved-fans)
           (chosen : Chosen S (rowOf free-row) (setOf (t .remaining)) (setOf members) x) (t′ : Tally) (table′ : List (List ℕ)) (shares′ : List ℕ)

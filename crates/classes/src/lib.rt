@@ -147,16 +147,19 @@ impl Tally {
 fn phase(
     shares: &mut [u64],
     table: &mut [[u8; 47]; 24],
+    release: &[u32; 24],
+    deadline: &[u32; 24],
+    instants: &[u32; 48],
     active: &[bool; 1128],
     lens: &[u64; 47],
-    grams: &[u64; 24],
+    grams: &[u32; 24],
     doses: usize,
     intervals: usize,
     fans: u64,
     sequence: [usize; 24],
     tally: Tally,
 ) -> Tally
-    requires { ⌜ (length (now shares) ≡ 1128) × Sheet doses intervals (now active) (now lens) (now grams) × SoFar (settingFrom doses intervals (now active) (now lens) (now grams)) (λ j. fans) tally (now table) (now shares) × (tally .classed < doses) ⌝ }
+    requires { ⌜ (length (now shares) ≡ 1128) × Sheet doses intervals (now release) (now deadline) (now instants) (now active) (now lens) (now grams) × SoFar (settingFrom doses intervals (now active) (now lens) (now grams)) (λ j. fans) tally (now table) (now shares) × (tally .classed < doses) ⌝ }
     ensures { λ r. ⌜ SoFar (settingFrom doses intervals (now (active .entry)) (now (lens .entry)) (now (grams .entry))) (λ j. fans) r (now (table .exit)) (now (shares .exit)) × (tally .classed < r .classed) ⌝ }
 {
     let mut x = [0u64; 1128];
@@ -165,6 +168,9 @@ fn phase(
     let remaining = tally.remaining;
     let next = next_class(
         &mut x,
+        release,
+        deadline,
+        instants,
         active,
         lens,
         grams,
@@ -185,15 +191,18 @@ fn phase(
 fn phases(
     shares: &mut [u64],
     table: &mut [[u8; 47]; 24],
+    release: &[u32; 24],
+    deadline: &[u32; 24],
+    instants: &[u32; 48],
     active: &[bool; 1128],
     lens: &[u64; 47],
-    grams: &[u64; 24],
+    grams: &[u32; 24],
     doses: usize,
     intervals: usize,
     fans: u64,
     sequence: [usize; 24],
 ) -> Tally
-    requires { ⌜ (length (now shares) ≡ 1128) × (length (now table) ≡ 24) × Sheet doses intervals (now active) (now lens) (now grams) × Blank (now table) (now shares) ⌝ }
+    requires { ⌜ (length (now shares) ≡ 1128) × (length (now table) ≡ 24) × Sheet doses intervals (now release) (now deadline) (now instants) (now active) (now lens) (now grams) × Blank (now table) (now shares) ⌝ }
     ensures { λ r. ⌜ SoFar (settingFrom doses intervals (now (active .entry)) (now (lens .entry)) (now (grams .entry))) (λ j. fans) r (now (table .exit)) (now (shares .exit)) × (r .classed ≡ doses) ⌝ }
 {
     let mut tally = Tally::start(doses);
@@ -201,6 +210,9 @@ fn phases(
         tally = phase(
             shares,
             table,
+            release,
+            deadline,
+            instants,
             active,
             lens,
             grams,
@@ -229,7 +241,10 @@ pub fn classes_of(o: Order, shares: &mut [u64; 1128], table: &mut [[u8; 47]; 24]
 {
     let doses = o.count;
     let fans = o.fans;
+    let release = o.release;
+    let deadline = o.deadline;
     let instants = interval::instants_of(o);
+    let at = instants.at;
     let intervals = interval::interval_count(instants);
     let active = active_in_order(o, instants, intervals);
     let lens = lens_in(instants);
@@ -240,6 +255,9 @@ pub fn classes_of(o: Order, shares: &mut [u64; 1128], table: &mut [[u8; 47]; 24]
     phases(
         shares,
         table,
+        &release,
+        &deadline,
+        &at,
         &active,
         &lens,
         &grams,

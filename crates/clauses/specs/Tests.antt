@@ -1,20 +1,20 @@
 -- What the judge tests of plan bytes, over the arrays in which it holds an order: document 01, "A plan stands", with the sets of doses named by
 -- the plan's own slots. No share is raised: the plan is its own certificate.
 use mathlib.Core.Path.{_≡_}
-use mathlib.Core.Bool.{Bool, true, false, _&&_}
+use mathlib.Core.Bool.{Bool, true, false}
 use mathlib.Core.List.{List}
-use Prim.Native.Nat.{ℕ, zero, suc, _+_, _-_, _*_, _/_, _%_, _<_, _≤_, min}
-use lib.Dec.{eqb, leb, ltb}
+use Prim.Native.Nat.{ℕ, zero, suc, _+_, _-_, _*_, _/_, _%_, _<_, _≤_}
+use lib.Dec.{eqb, ltb}
 use lib.ListN.{length, getD}
-use Rattle.model.specs.Sets.{on, sum, weight}
+use Rattle.model.specs.Sets.{sum, weight}
 use Rattle.model.specs.Records.{pick, recordSize, classKind, slotKind, blankAt, classParts, slotParts, recordAt}
 use Rattle.model.specs.Orders.{Order, doseAt}
 use Rattle.model.specs.Intervals.{instantAt, intervalCount}
 use Rattle.model.specs.Classes.{Setting, Row, W, classP}
 use Rattle.model.specs.Plans.{Class, Slot}
-use Rattle.sheet.specs.Sheet.{setsOf}
 use Rattle.model.specs.Stands.{Between, EndsBy, NoOverlap, starts, ends, unitsOf}
 use Rattle.records.specs.Plan.{classIn, slotIn, kindAt}
+use Rattle.sheet.specs.Sheet.{settingBy, setsOf}
 
 -- r says whether P holds
 pub record Tells (r : Bool) (P : Type 0) : Type 0 where
@@ -48,13 +48,7 @@ pub record SheetOf (o : Order) (h : Sheet) : Type 0 where
 
 -- the setting that the arrays stand for
 abbrev pub settingIn : Sheet → Setting
-settingIn h = record {
-  doses = h .doses;
-  intervals = h .intervals;
-  active = λ k j. leb (getD (h .release) k 0) (getD (h .instants) j 0) && leb (getD (h .instants) (j + 1) 0) (getD (h .deadline) k 0);
-  len = λ j. getD (h .instants) (j + 1) 0 - getD (h .instants) j 0;
-  grams = λ k. getD (h .grams) k 0;
-}
+settingIn h = settingBy (h .doses) (h .intervals) (h .release) (h .deadline) (h .grams) (h .instants)
 
 -- its fans, in every interval
 abbrev pub fansIn : Sheet → Row
@@ -111,12 +105,6 @@ pub record Says (c : Class) (i size grams time : ℕ) : Type 0 where
   pub some : 1 ≤ c .doses
   pub weighs : c .grams ≡ grams
   pub lasts : c .time ≡ time
-
--- "the smaller of (active doses of A) and (fans − fans reserved by earlier classes)" for class i: row has it, and free the latter
-pub record Opens (numbers release deadline instants : List ℕ) (doses intervals i : ℕ) (free row : List ℕ) : Type 0 where
-  pub smaller : (j : ℕ) → j < intervals
-      → getD row j 0 ≡ min (weight doses (λ k. on (leb (getD release k 0) (getD instants j 0) && leb (getD instants (j + 1) 0) (getD deadline k 0)) 1) (setsOf numbers i)) (getD free j 0)
-  pub small : (j : ℕ) → j < intervals → getD row j 0 ≤ 24
 
 -- "Class rates fall strictly from class to class.": c before d
 pub record Falls (c d : Class) : Type 0 where

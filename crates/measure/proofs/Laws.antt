@@ -1,49 +1,66 @@
--- Laws of the arrays that measure a set. Assumes nothing.
+-- Laws of the arrays that measure a set: what is worked out in them is its W, P and open fans. Assumes nothing.
 use mathlib.Core.Bool.{Bool}
 use mathlib.Core.List.{List}
-use mathlib.Core.Logic.{inl, inr}
-use mathlib.Core.Path.{_≡_, ap, _∙_}
-use Prim.Native.Nat.{ℕ, _*_, _<_, _≤_}
+use mathlib.Core.Path.{_≡_, refl, ap, ap₂, _∙_}
+use Prim.Native.Nat.{ℕ, zero, suc, _*_, _<_, _≤_, min}
+use native.Mathlib.Nat.{mul-le-mul}
 use native.Mathlib.Omega.{arith}
-use lib.ListN.{length, getD, List·getD-eq-default}
+use lib.ListN.{getD}
 use Rattle.model.specs.Sets.{sum, on, weight, Doses}
-use Rattle.model.specs.Classes.{Setting, P, openFans}
-use Rattle.model.proofs.Fractions.{compare≤}
-use Rattle.model.proofs.Sets.{weight-congr, weight-scale}
+use Rattle.model.specs.Classes.{Setting, Row, P, openFans}
+use Rattle.model.proofs.Same.{Agree, fans-same, grams-same, time-same}
+use Rattle.model.proofs.Sets.{Alike, on-below, weight-alike}
 use Rattle.model.proofs.Sums.{sum-congr}
-use Rattle.sheet.specs.Sheet.{setOf, activeOf, rowOf, Below, settingFrom, Sheet}
-use Rattle.measure.specs.Measure.{countIn, Opens, Measured}
+use Rattle.sheet.specs.Sheet.{setOf, lenOf, settingBy, Below, Sheet}
+use Rattle.measure.specs.Measure.{Opens, Measured}
 
--- every place of an array of n is at most b
-pub all-below : (b n : ℕ) (l : List ℕ) → length l ≡ n → ((k : ℕ) → k < n → getD l k 0 ≤ b) → Below b l
-all-below b n l e all k = elim (compare≤ n k) [
-  | inl h ↦ let past : getD l k 0 ≡ 0 = List·getD-eq-default l 0 {n = k} (omega arith) in omega arith
-  | inr h ↦ all k h
-]
+-- ---- W and P fit
 
--- what is worked out in the arrays is what a set weighs and opens
-module _ (n J : ℕ) (active : List Bool) (lens grams free : List ℕ) (set : List Bool) (sheet : Sheet n J active lens grams)
-    (reserved : List ℕ) (w p : ℕ) (ho : Opens active n set free reserved) (hw : w ≡ weight n (λ k. getD grams k 0) (setOf set))
-    (hp : p ≡ sum J (λ j. getD lens j 0 * getD reserved j 0)) where
+sum-most : (n b : ℕ) (f : ℕ → ℕ) → ((k : ℕ) → k < n → f k ≤ b) → sum n f ≤ n * b
+unfolding sum
+sum-most zero b f h = omega arith
+sum-most (suc n) b f h = omega (arith, sum-most n b f (λ k l. h k (omega arith)), h n (omega arith))
+
+module _ {n J : ℕ} {release deadline instants : List ℕ} {active : List Bool} {lens grams : List ℕ} (sheet : Sheet n J release deadline instants active lens grams) where
+  pub grams-most : (A : Doses) → weight n (λ k. getD grams k 0) A ≤ 24000000
+  unfolding weight
+  grams-most A =
+      omega (arith, sheet .few-doses, sum-most n 1000000 (λ k. on (A k) (getD grams k 0)) (λ k l. omega (arith, on-below (A k) (getD grams k 0), sheet .light k)))
+
+  pub time-most : (fans : List ℕ) → Below 24 fans → sum J (λ j. lenOf instants j * getD fans j 0) ≤ 1000000000
+  time-most fans small =
+      omega (arith, sheet .few-intervals, sum-most J 14515200 (λ j. lenOf instants j * getD fans j 0) (λ j l. omega (arith, mul-le-mul (short j l) (small j))))
+    where
+      short : (j : ℕ) → j < J → lenOf instants j ≤ 604800
+      short j l = omega (arith, sheet .same .len j l, sheet .short j)
+
+-- ---- what is worked out in the arrays is what a set weighs and opens
+
+-- the array marks the set A, and `free` has the fans of the row
+module _ (n J : ℕ) (release deadline grams instants : List ℕ) (A : Doses) (set : List Bool) (marked : Alike n (setOf set) A)
+    (row : Row) (free : List ℕ) (left : (j : ℕ) → j < J → getD free j 0 ≡ row j) (open-fans : List ℕ) (w p : ℕ)
+    (opened : Opens release deadline instants n J set free open-fans) (weighs : w ≡ weight n (λ k. getD grams k 0) (setOf set))
+    (lasts : p ≡ sum J (λ j. lenOf instants j * getD open-fans j 0)) where
   abbrev S : Setting
-  S = settingFrom n J active lens grams
+  S = settingBy n J release deadline grams instants
 
-  abbrev A : Doses
-  A = setOf set
-
-  fans : (j : ℕ) → j < J → getD reserved j 0 ≡ openFans S (rowOf free) A j
+  fans : (j : ℕ) → j < J → getD open-fans j 0 ≡ openFans S row A j
   unfolding openFans
-  fans j l = ho j (omega (arith, sheet .few-intervals))
+  fans j l = opened .smaller j l ∙ ap₂ min (weight-alike n _ (setOf set) A marked) (left j l)
 
-  time : p ≡ P S (rowOf free) A
+  time : p ≡ P S row A
   unfolding P
-  time = hp ∙ sum-congr J (λ j l. ap (λ (y : ℕ). getD lens j 0 * y) (fans j l))
+  time = lasts ∙ sum-congr J (λ j l. ap (λ (y : ℕ). lenOf instants j * y) (fans j l))
 
-  -- past the intervals no dose is active
-  none-active : (j : ℕ) → J ≤ j → j < 47 → countIn active n set j ≡ 0
-  none-active j g q =
-      weight-congr n (λ k. on (activeOf active k j) 1) (λ k. 0) A (λ k l. ap (λ (b : Bool). on b 1) (sheet .no-interval k j (omega (arith, sheet .few-doses)) g q))
-      ∙ omega (arith, weight-scale n 0 (λ k. 1) A)
+  pub measured : Measured S row A w p open-fans
+  measured = record { grams = weighs ∙ weight-alike n _ (setOf set) A marked; time = time; fans = fans; no-fans = λ j g q. opened .none j g }
 
-  pub measured : Measured S (rowOf free) A w p reserved
-  measured = record { grams = hw; time = time; fans = fans; no-fans = λ j g q. omega (arith, ho j q, none-active j g q) }
+-- and so in a setting that agrees
+pub measured-same : (S S′ : Setting) → Agree S S′ → {row : Row} {A : Doses} {w p : ℕ} {open-fans : List ℕ}
+    → Measured S row A w p open-fans → Measured S′ row A w p open-fans
+measured-same S S′ a {row} {A} m = record {
+  grams = m .grams ∙ grams-same S S′ a A A (λ k l. refl);
+  time = m .time ∙ time-same S S′ a row row (λ j l. refl) A A (λ k l. refl);
+  fans = λ j l. let l′ : j < S .intervals = omega (arith, a .intervals) in m .fans j l′ ∙ fans-same S S′ a row row (λ j l. refl) A A (λ k l. refl) j l′;
+  no-fans = λ j g q. m .no-fans j (omega (arith, a .intervals)) q;
+}

@@ -1,10 +1,11 @@
 -- Two answers of a function of `measure` are one array: its promise settles every place. Assumes nothing.
 use mathlib.Core.Bool.{Bool, false}
 use mathlib.Core.List.{List}
-use mathlib.Core.Path.{_≡_}
+use mathlib.Core.Path.{_≡_, sym, _∙_}
 use Prim.Native.Nat.{ℕ, _<_}
 use lib.ListN.{length, getD}
-use Rattle.steps.proofs.Arrays.{filled-one}
+use Rattle.steps.proofs.Arrays.{filled-one, places-one}
+use Rattle.steps.proofs.Tests.{below-or}
 use Rattle.sheet.specs.Sheet.{setsOf}
 use Rattle.measure.specs.Measure.{Opens}
 
@@ -12,6 +13,7 @@ pub set-one : (numbers : List ℕ) (i : ℕ) {r r′ : List Bool} → length r �
     → ((k : ℕ) → k < 24 → getD r k false ≡ setsOf numbers i k) → ((k : ℕ) → k < 24 → getD r′ k false ≡ setsOf numbers i k) → r ≡ r′
 set-one numbers i l l′ a b = filled-one false 24 l l′ a b
 
-pub opens-one : (active : List Bool) (n : ℕ) (set : List Bool) (free : List ℕ) {r r′ : List ℕ} → length r ≡ 47 → length r′ ≡ 47
-    → Opens active n set free r → Opens active n set free r′ → r ≡ r′
-opens-one active n set free l l′ a b = filled-one 0 47 l l′ a b
+pub opens-one : (release deadline instants : List ℕ) (n J : ℕ) (set : List Bool) (free : List ℕ) {r r′ : List ℕ} → length r ≡ 47 → length r′ ≡ 47
+    → Opens release deadline instants n J set free r → Opens release deadline instants n J set free r′ → r ≡ r′
+opens-one release deadline instants n J set free l l′ a b =
+    places-one 0 47 l l′ (λ j q. below-or j J (λ h. a .smaller j h ∙ sym (b .smaller j h)) (λ h. a .none j h ∙ sym (b .none j h)))

@@ -6,15 +6,17 @@ use Prim.Native.Nat.{ℕ, _<_, _≤_, min}
 use lib.ListN.{getD}
 use Rattle.model.specs.Sets.{on, weight, Doses}
 use Rattle.model.specs.Classes.{Setting, Row, W, P, openFans}
-use Rattle.sheet.specs.Sheet.{setOf, activeOf}
+use Rattle.sheet.specs.Sheet.{setOf, reaches, Below}
 
--- the number of doses of the set that are active in interval j
-abbrev pub countIn : List Bool → ℕ → List Bool → ℕ → ℕ
-countIn active n set j = weight n (λ k. on (activeOf active k j) 1) (setOf set)
+-- "(active doses of A)", in interval j, by the doses' windows
+abbrev pub countIn : List ℕ → List ℕ → List ℕ → ℕ → List Bool → ℕ → ℕ
+countIn release deadline instants n set j = weight n (λ k. on (reaches release deadline instants k j) 1) (setOf set)
 
--- "the smaller of (active doses of A) and (fans − fans reserved by earlier classes)", interval by interval
-abbrev pub Opens : List Bool → ℕ → List Bool → List ℕ → List ℕ → Type 0
-Opens active n set free open-fans = (j : ℕ) → j < 47 → getD open-fans j 0 ≡ min (countIn active n set j) (getD free j 0)
+-- "the smaller of (active doses of A) and (fans − fans reserved by earlier classes)", interval by interval, and none past the J intervals
+pub record Opens (release deadline instants : List ℕ) (n J : ℕ) (set : List Bool) (free open-fans : List ℕ) : Type 0 where
+  pub smaller : (j : ℕ) → j < J → getD open-fans j 0 ≡ min (countIn release deadline instants n set j) (getD free j 0)
+  pub none : (j : ℕ) → J ≤ j → getD open-fans j 0 ≡ 0
+  pub small : Below 24 open-fans
 
 -- W, P and the open fans of a set are worked out
 pub record Measured (S : Setting) (row : Row) (A : Doses) (w p : ℕ) (open-fans : List ℕ) : Type 0 where

@@ -1,14 +1,18 @@
 // What a set of doses weighs and opens (document 01, "From doses to classes").
+use steps::both;
 use steps::index;
+use steps::less;
 use steps::on;
 use steps::smaller;
+use steps::wide;
 ghost use mathlib.Core.Path.{_≡_};
 ghost use mathlib.Core.Bool.{false};
-ghost use Prim.Native.Nat.{ℕ, _*_, _<_, _≤_};
-ghost use lib.ListN.{getD};
+ghost use Prim.Native.Nat.{ℕ, _+_, _*_, _<_, _≤_};
+ghost use lib.ListN.{length, getD};
 ghost use Rattle.model.specs.Sets.{sum, weight};
+ghost use Rattle.model.specs.Sets as sets;
 ghost use Rattle.model.specs.Classes.{setNumber};
-ghost use Rattle.sheet.specs.Sheet.{setOf, setsOf, Below};
+ghost use Rattle.sheet.specs.Sheet.{setOf, setsOf, within, lenOf, Below};
 ghost use Rattle.measure.specs.Measure.{countIn, Opens};
 
 // The doses of class i, by the number that each dose's class has.
@@ -42,14 +46,14 @@ pub fn first_set(numbers: [u32; 24], doses: usize) -> u64
 }
 
 // "W(A) is the sum of grams of A."
-pub fn grams_of(grams: &[u64; 24], doses: usize, set: [bool; 24]) -> u64
-    requires { ⌜ (doses ≤ 24) × Below 1000000 (now grams) ⌝ }
-    ensures { λ r. ⌜ (r ≡ weight doses (λ k. getD (now (grams .entry)) k 0) (setOf set)) × (r ≤ 24000000) ⌝ }
+pub fn grams_of(grams: &[u32; 24], doses: usize, set: [bool; 24]) -> u64
+    requires { ⌜ doses ≤ 24 ⌝ }
+    ensures { λ r. ⌜ r ≡ weight doses (λ k. getD (now (grams .entry)) k 0) (setOf set) ⌝ }
 {
     let mut sum: u64 = 0;
     let mut k = 0;
     while k < doses {
-        sum += on(set[k], grams[k]);
+        sum += on(set[k], wide(grams[k]));
         k += 1;
     }
     sum
@@ -69,43 +73,83 @@ pub fn size_of(doses: usize, set: [bool; 24]) -> u64
     sum
 }
 
-// "(active doses of A)", in interval j.
-fn active_in(active: &[bool; 1128], doses: usize, set: [bool; 24], j: usize) -> u64
-    requires { ⌜ (doses ≤ 24) × (j < 47) ⌝ }
-    ensures { λ r. ⌜ (r ≡ countIn (now (active .entry)) doses set j) × (r ≤ 24) ⌝ }
+// The active doses so far, interval by interval, with one dose more.
+fn with_dose(
+    counts: &mut [u64; 47],
+    release: u32,
+    deadline: u32,
+    instants: &[u32; 48],
+    intervals: usize,
+)
+    requires { ⌜ (length (now counts) ≡ 47) × (intervals ≤ 47) × ((j : ℕ) → j < intervals → getD (now counts) j 0 ≤ 23) ⌝ }
+    ensures { λ _. ⌜ (length (now (counts .exit)) ≡ 47) × ((j : ℕ) → j < intervals → getD (now (counts .exit)) j 0 ≡ getD (now (counts .entry)) j 0 + sets.on (within release deadline (now (instants .entry)) j) 1) ⌝ }
 {
-    let mut sum: u64 = 0;
+    let mut j = 0;
+    while j < intervals {
+        let open = both(release <= instants[j], instants[j + 1] <= deadline);
+        counts[j] = counts[j] + on(open, 1);
+        j += 1;
+    }
+}
+
+// "(active doses of A)", for each interval.
+fn active_row(
+    release: &[u32; 24],
+    deadline: &[u32; 24],
+    instants: &[u32; 48],
+    doses: usize,
+    intervals: usize,
+    set: [bool; 24],
+) -> [u64; 47]
+    requires { ⌜ (doses ≤ 24) × (intervals ≤ 47) ⌝ }
+    ensures { λ r. ⌜ ((j : ℕ) → j < intervals → (getD r j 0 ≡ countIn (now (release .entry)) (now (deadline .entry)) (now (instants .entry)) doses set j) × (getD r j 0 ≤ 24)) ⌝ }
+{
+    let mut counts = [0u64; 47];
     let mut k = 0;
     while k < doses {
-        sum += on(set[k], on(active[k * 47 + j], 1));
+        if !set[k] {
+            k += 1;
+            continue;
+        }
+        with_dose(&mut counts, release[k], deadline[k], instants, intervals);
         k += 1;
     }
-    sum
+    counts
 }
 
 // "the smaller of (active doses of A) and (fans − fans reserved by earlier classes)", for each interval.
-pub fn open_fans(active: &[bool; 1128], doses: usize, set: [bool; 24], free: [u64; 47]) -> [u64; 47]
-    requires { ⌜ doses ≤ 24 ⌝ }
-    ensures { λ r. ⌜ Opens (now (active .entry)) doses set free r × Below 24 r ⌝ }
+pub fn open_fans(
+    release: &[u32; 24],
+    deadline: &[u32; 24],
+    instants: &[u32; 48],
+    doses: usize,
+    intervals: usize,
+    set: [bool; 24],
+    free: [u64; 47],
+) -> [u64; 47]
+    requires { ⌜ (doses ≤ 24) × (intervals ≤ 47) ⌝ }
+    ensures { λ r. ⌜ Opens (now (release .entry)) (now (deadline .entry)) (now (instants .entry)) doses intervals set free r ⌝ }
 {
+    let counts = active_row(release, deadline, instants, doses, intervals, set);
     let mut reserved = [0u64; 47];
     let mut j = 0;
-    while j < 47 {
-        reserved[j] = smaller(active_in(active, doses, set, j), free[j]);
+    while j < intervals {
+        reserved[j] = smaller(counts[j], free[j]);
         j += 1;
     }
     reserved
 }
 
-// "P(A) its reserved fan time": "the sum over intervals of length × the smaller of" the two.
-pub fn fan_time(lens: &[u64; 47], intervals: usize, reserved: [u64; 47]) -> u64
-    requires { ⌜ (intervals ≤ 47) × Below 604800 (now lens) × Below 24 reserved ⌝ }
-    ensures { λ r. ⌜ (r ≡ sum intervals (λ j. getD (now (lens .entry)) j 0 * getD reserved j 0)) × (r ≤ 1000000000) ⌝ }
+// "P(A) its open fan time": "the sum over intervals of length × the smaller of" the two.
+pub fn fan_time(instants: &[u32; 48], intervals: usize, reserved: [u64; 47]) -> u64
+    requires { ⌜ (intervals ≤ 47) × Below 24 reserved ⌝ }
+    ensures { λ r. ⌜ r ≡ sum intervals (λ j. lenOf (now (instants .entry)) j * getD reserved j 0) ⌝ }
 {
     let mut sum: u64 = 0;
     let mut j = 0;
     while j < intervals {
-        sum += lens[j] * reserved[j];
+        let len = less(wide(instants[j + 1]), wide(instants[j]));
+        sum += len * reserved[j];
         j += 1;
     }
     sum

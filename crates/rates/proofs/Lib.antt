@@ -1,1 +1,1 @@
-pub mod FanTime
+pub mod Fitting

@@ -24,7 +24,8 @@ on-zero : (a : Bool) {u : ℕ} → u ≡ 0 → on a u ≡ 0
 on-zero true e = e
 on-zero false e = refl
 
-module _ (n J : ℕ) (active : List Bool) (lens grams free : List ℕ) (set : List Bool) (sheet : Sheet n J active lens grams)
+module _ (n J : ℕ) (release deadline instants : List ℕ) (active : List Bool) (lens grams free : List ℕ) (set : List Bool)
+    (sheet : Sheet n J release deadline instants active lens grams)
     (reserved : List ℕ) (w p : ℕ) (known : Measured (settingFrom n J active lens grams) (rowOf free) (setOf set) w p reserved) where
   abbrev S : Setting
   S = settingFrom n J active lens grams

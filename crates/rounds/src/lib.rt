@@ -4,6 +4,7 @@ use measure::grams_of;
 use measure::open_fans;
 use steps::both;
 use steps::on;
+use steps::wide;
 ghost use mathlib.Core.Path.{_≡_};
 ghost use mathlib.Core.Bool.{false, _&&_};
 ghost use Prim.Native.Nat.{ℕ, _+_, _*_, _<_, _≤_};
@@ -66,14 +67,14 @@ fn holds_of(lens: &[u64; 47], reserved: [u64; 47], w: u64) -> [u64; 47]
 }
 
 // "A dose of w grams in a class with W and P needs w × P units."
-fn needs_of(grams: &[u64; 24], set: [bool; 24], p: u64) -> [u64; 24]
-    requires { ⌜ Below 1000000 (now grams) × (p ≤ 1000000000) ⌝ }
+fn needs_of(grams: &[u32; 24], set: [bool; 24], p: u64) -> [u64; 24]
+    requires { ⌜ p ≤ 1000000000 ⌝ }
     ensures { λ r. ⌜ Needs (now (grams .entry)) set p r ⌝ }
 {
     let mut needs = [0u64; 24];
     let mut k = 0;
     while k < 24 {
-        needs[k] = on(set[k], grams[k] * p);
+        needs[k] = on(set[k], wide(grams[k]) * p);
         k += 1;
     }
     needs
@@ -104,21 +105,24 @@ struct Round {
 // One round: the candidate's shares in x.
 fn try_candidate(
     x: &mut [u64],
+    release: &[u32; 24],
+    deadline: &[u32; 24],
+    instants: &[u32; 48],
     active: &[bool; 1128],
     lens: &[u64; 47],
-    grams: &[u64; 24],
+    grams: &[u32; 24],
     doses: usize,
     intervals: usize,
     free: [u64; 47],
     set: [bool; 24],
     sequence: [usize; 24],
 ) -> Round
-    requires { ⌜ (length (now x) ≡ 1128) × Sheet doses intervals (now active) (now lens) (now grams) ⌝ }
+    requires { ⌜ (length (now x) ≡ 1128) × Sheet doses intervals (now release) (now deadline) (now instants) (now active) (now lens) (now grams) ⌝ }
     ensures { λ r. ⌜ Measured (settingFrom doses intervals (now (active .entry)) (now (lens .entry)) (now (grams .entry))) (rowOf free) (setOf set) (r .grams) (r .time) (r .reserved) × Below 24 (r .reserved) × Tried (settingFrom doses intervals (now (active .entry)) (now (lens .entry)) (now (grams .entry))) (rowOf free) (setOf set) (now (x .exit)) (r .met) (setOf (r .part)) ⌝ }
 {
     let w = grams_of(grams, doses, set);
-    let reserved = open_fans(active, doses, set, free);
-    let p = fan_time(lens, intervals, reserved);
+    let reserved = open_fans(release, deadline, instants, doses, intervals, set, free);
+    let p = fan_time(instants, intervals, reserved);
     let mut rooms = [0u64; 1128];
     lay_rooms(&mut rooms, active, lens, set, w);
     let holds = holds_of(lens, reserved, w);
@@ -147,22 +151,28 @@ pub struct Class {
 // met. Its shares are in x.
 pub fn next_class(
     x: &mut [u64],
+    release: &[u32; 24],
+    deadline: &[u32; 24],
+    instants: &[u32; 48],
     active: &[bool; 1128],
     lens: &[u64; 47],
-    grams: &[u64; 24],
+    grams: &[u32; 24],
     doses: usize,
     intervals: usize,
     free: [u64; 47],
     remaining: [bool; 24],
     sequence: [usize; 24],
 ) -> Class
-    requires { ⌜ (length (now x) ≡ 1128) × Sheet doses intervals (now active) (now lens) (now grams) × Nonempty doses (setOf remaining) × NonePast doses (setOf remaining) ⌝ }
+    requires { ⌜ (length (now x) ≡ 1128) × Sheet doses intervals (now release) (now deadline) (now instants) (now active) (now lens) (now grams) × Nonempty doses (setOf remaining) × NonePast doses (setOf remaining) ⌝ }
     ensures { λ r. ⌜ NextOf (settingFrom doses intervals (now (active .entry)) (now (lens .entry)) (now (grams .entry))) (rowOf free) (setOf remaining) r (now (x .exit)) ⌝ }
 {
     let mut set = remaining;
     loop {
         let round = try_candidate(
             x,
+            release,
+            deadline,
+            instants,
             active,
             lens,
             grams,

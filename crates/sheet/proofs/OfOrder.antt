@@ -2,7 +2,7 @@
 use mathlib.Core.Bool.{Bool, _&&_}
 use mathlib.Core.List.{List}
 use mathlib.Core.Logic.{inl, inr}
-use mathlib.Core.Path.{_≡_, ap, _∙_}
+use mathlib.Core.Path.{_≡_, refl, sym, ap, _∙_}
 use Prim.Native.Nat.{ℕ, _+_, _*_, _-_, _%_, _<_, _≤_}
 use native.Mathlib.Omega.{arith}
 use borrow.Author.Tests.{lt-ltb, le-ltb}
@@ -55,9 +55,16 @@ module _ (o : Order) (fit : Fit (asOrder o)) (s : Instants) (of : InstantsOf o s
     grams = grams-at;
   }
 
-  -- the numbers fit, and nothing stands past the doses and the intervals
-  pub sheet : Sheet (o .count) J active lens grams
+  -- the table and the lengths are those of its windows and instants; the numbers fit, and nothing stands past the doses and the intervals
+  pub sheet : Sheet (o .count) J (o .release) (o .deadline) (s .at) active lens grams
   sheet = record {
+    same = record {
+      doses = refl;
+      intervals = refl;
+      active = λ k j q m. sym (active-at k j (omega (arith, few-doses o fit)) (omega (arith, few-spans)) ∙ rw (lt-ltb k (o .count) q, lt-ltb j J m));
+      len = λ j m. sym (hl .intervals j (omega (arith, few-spans)));
+      grams = λ k q. refl;
+    };
     few-doses = few-doses o fit;
     few-intervals = few-spans;
     short = λ j. elim (compare≤ 47 j) [ inl h ↦ omega (arith, hl .past j h) | inr h ↦ omega (arith, span-at j h, instants-week (asOrder o) fit (j + 1)) ];

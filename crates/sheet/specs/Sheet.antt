@@ -2,11 +2,12 @@
 use mathlib.Core.Path.{_≡_}
 use mathlib.Core.Bool.{Bool, false, _&&_}
 use mathlib.Core.List.{List}
-use Prim.Native.Nat.{ℕ, _+_, _*_, _/_, _%_, _<_, _≤_}
-use lib.Dec.{eqb, ltb}
+use Prim.Native.Nat.{ℕ, _+_, _-_, _*_, _/_, _%_, _<_, _≤_}
+use lib.Dec.{eqb, leb, ltb}
 use lib.ListN.{getD}
 use Rattle.model.specs.Sets.{Doses}
 use Rattle.model.specs.Classes.{Setting, Row}
+use Rattle.model.proofs.Same.{Agree}
 use Rattle.order.specs.declared.Order.{Order}
 use Rattle.interval.specs.declared.Instants.{Instants}
 use Rattle.interval.specs.Held.{spanIn, activeIn}
@@ -50,7 +51,29 @@ rowOf fans j = getD fans j 0
 abbrev pub Below : ℕ → List ℕ → Type 0
 Below b l = (i : ℕ) → getD l i 0 ≤ b
 
--- the setting of n doses and J intervals that the arrays stand for
+-- "A dose is active in an interval that lies within its window [release, deadline).": interval j, by the instants that bound it
+abbrev pub within : ℕ → ℕ → List ℕ → ℕ → Bool
+within release deadline instants j = leb release (getD instants j 0) && leb (getD instants (j + 1) 0) deadline
+
+-- dose k is active in interval j
+abbrev pub reaches : List ℕ → List ℕ → List ℕ → ℕ → ℕ → Bool
+reaches release deadline instants k = within (getD release k 0) (getD deadline k 0) instants
+
+-- the length of interval j
+abbrev pub lenOf : List ℕ → ℕ → ℕ
+lenOf instants j = getD instants (j + 1) 0 - getD instants j 0
+
+-- the setting of n doses and J intervals that an order's own arrays stand for
+abbrev pub settingBy : ℕ → ℕ → List ℕ → List ℕ → List ℕ → List ℕ → Setting
+settingBy n J release deadline grams instants = record {
+  doses = n;
+  intervals = J;
+  active = reaches release deadline instants;
+  len = lenOf instants;
+  grams = λ k. getD grams k 0;
+}
+
+-- the same with a table of which dose is active where, and the lengths in an array
 abbrev pub settingFrom : ℕ → ℕ → List Bool → List ℕ → List ℕ → Setting
 settingFrom n J active lens grams = record {
   doses = n;
@@ -60,8 +83,10 @@ settingFrom n J active lens grams = record {
   grams = λ k. getD grams k 0;
 }
 
--- the numbers fit, every dose weighs, and nothing stands past the doses and the intervals
-pub record Sheet (n J : ℕ) (active : List Bool) (lens grams : List ℕ) : Type 0 where
+-- the table and the lengths are those of the windows and the instants; the numbers fit, every dose weighs, and nothing stands past the doses
+-- and the intervals
+pub record Sheet (n J : ℕ) (release deadline instants : List ℕ) (active : List Bool) (lens grams : List ℕ) : Type 0 where
+  pub same : Agree (settingBy n J release deadline grams instants) (settingFrom n J active lens grams)
   pub few-doses : n ≤ 24
   pub few-intervals : J ≤ 47
   pub short : Below 604800 lens

@@ -9,14 +9,14 @@ ghost use lib.Dec.{ltb};
 ghost use Rattle.interval.specs.Held.{activeIn};
 ghost use Rattle.sheet.specs.Sheet.{GramsIn, LensIn, ActiveIn};
 
-pub fn grams_in(o: Order) -> [u64; 24]
+pub fn grams_in(o: Order) -> [u32; 24]
     requires { ⌜ o .count ≤ 24 ⌝ }
     ensures { λ r. ⌜ GramsIn o r ⌝ }
 {
-    let mut grams = [0u64; 24];
+    let mut grams = [0u32; 24];
     let mut k = 0;
     while k < o.count {
-        grams[k] = wide(o.grams[k]);
+        grams[k] = o.grams[k];
         k += 1;
     }
     grams

@@ -10,7 +10,7 @@ use Rattle.classes.proofs.classes_of.Statement.{statement}
 use Rattle.classes.proofs.classes_of.Tie as tie
 
 instants-of-requires : tie.Need-instants-of-requires
-instants-of-requires c κs = few-doses (c .args .o) (c .pre)
+instants-of-requires c κs = let start = c .before .before in few-doses (start .args .o) (start .pre)
 
 interval-count-requires : tie.Need-interval-count-requires
 interval-count-requires c κs = search needs
@@ -22,36 +22,37 @@ lens-in-requires : tie.Need-lens-in-requires
 lens-in-requires c κs = search needs
 
 grams-in-requires : tie.Need-grams-in-requires
-grams-in-requires c κs = few-doses (c .before .before .before .before .args .o) (c .before .before .before .before .pre)
+grams-in-requires c κs = let start = c .before .before .before .before .before .before .before in few-doses (start .args .o) (start .pre)
 
 by-deadline-requires : tie.Need-by-deadline-requires
-by-deadline-requires c κs = few-doses (c .before .before .before .before .before .args .o) (c .before .before .before .before .before .pre)
+by-deadline-requires c κs = let start = c .before .before .before .before .before .before .before .before in few-doses (start .args .o) (start .pre)
 
 cast-phases : tie.Need-cast-phases
 cast-phases c = search needs
 
 phases-requires : tie.Need-phases-requires
 phases-requires c κs =
-    let A = c .before .before .before .before .before .before .before .before .before .before .before .before .before .args in
-    let fit = c .before .before .before .before .before .before .before .before .before .before .before .before .before .pre in
-    let s = c .before .before .before .before .before .before .before .before .before .before .before .before .instants-of in
-    let J = c .before .before .before .before .before .before .before .before .before .before .before .interval-count in
-    let active = c .before .before .before .before .before .before .before .before .before .before .active-in-order in
-    let lens = c .before .before .before .before .before .before .before .before .before .lens-in in
-    let grams = c .before .before .before .before .before .before .before .before .grams-in in
-    (refl, refl, sheet (A .o) fit (s .result) (s .ensures) (J .result) (J .ensures) (active .result) (lens .result) (grams .result) (active .ensures) (lens .ensures) (grams .ensures), blank)
+    let start = c .before .before .before .before .before .before .before .before .before .before .before .before .before .before .before .before .before .before .before in
+    let o = start .args .o in
+    let s = c .before .before .before .before .before .before .before .before .before .before .before .before .before .before .before .before .instants-of in
+    let J = c .before .before .before .before .before .before .before .before .before .before .before .before .before .before .interval-count in
+    let active = c .before .before .before .before .before .before .before .before .before .before .before .before .before .active-in-order in
+    let lens = c .before .before .before .before .before .before .before .before .before .before .before .before .lens-in in
+    let grams = c .before .before .before .before .before .before .before .before .before .before .before .grams-in in
+    (refl, refl, sheet o (start .pre) (s .result) (s .ensures) (J .result) (J .ensures) (active .result) (lens .result) (grams .result) (active .ensures) (lens .ensures) (grams .ensures), blank)
 
 returns : tie.Need-returns
 returns c =
-    let A = c .before .before .before .before .before .before .before .before .before .before .before .before .before .before .args in
-    let fit = c .before .before .before .before .before .before .before .before .before .before .before .before .before .before .pre in
-    let s = c .before .before .before .before .before .before .before .before .before .before .before .before .before .instants-of in
-    let J = c .before .before .before .before .before .before .before .before .before .before .before .before .interval-count in
-    let active = c .before .before .before .before .before .before .before .before .before .before .before .active-in-order in
-    let lens = c .before .before .before .before .before .before .before .before .before .before .lens-in in
-    let grams = c .before .before .before .before .before .before .before .before .before .grams-in in
-    of-order (asOrder (A .o)) fit _ _ (active .result) (lens .result) (grams .result) (agree (A .o) fit (s .result) (s .ensures) (J .result) (J .ensures) (active .result) (lens .result) (grams .result) (active .ensures) (lens .ensures) (grams .ensures))
-    _ (fans-is (A .o)) _ _ _ (c .phases .ensures .0) (c .phases .ensures .1)
+    let start = c .before .before .before .before .before .before .before .before .before .before .before .before .before .before .before .before .before .before .before .before in
+    let o = start .args .o in
+    let s = c .before .before .before .before .before .before .before .before .before .before .before .before .before .before .before .before .before .instants-of in
+    let J = c .before .before .before .before .before .before .before .before .before .before .before .before .before .before .before .interval-count in
+    let active = c .before .before .before .before .before .before .before .before .before .before .before .before .before .before .active-in-order in
+    let lens = c .before .before .before .before .before .before .before .before .before .before .before .before .before .lens-in in
+    let grams = c .before .before .before .before .before .before .before .before .before .before .before .before .grams-in in
+    let fit = start .pre in
+    of-order (asOrder o) fit _ _ (active .result) (lens .result) (grams .result) (agree o fit (s .result) (s .ensures) (J .result) (J .ensures) (active .result) (lens .result) (grams .result) (active .ensures) (lens .ensures) (grams .ensures))
+    _ (fans-is o) _ _ _ (c .phases .ensures .0) (c .phases .ensures .1)
 
 pub classes-of-spec : {M : Type 1} → statement M
 classes-of-spec =

@@ -15,9 +15,11 @@ slice-aggregate-next-class c = search needs
 
 next-class-requires : tie.Need-next-class-requires
 next-class-requires c κs =
-    let A = c .before .before .before .before .before .args in
-    let sheet = c .before .before .before .before .before .pre .1 in
-    (refl, sheet, some-remain (A .doses) (A .intervals) (A .active .now) (A .lens .now) (A .grams .now) (λ j. A .fans) (sheet .few-doses) (sheet .few-intervals) (A .tally) _ _ (c .before .before .before .before .before .pre .2) (c .before .before .before .before .before .pre .3), c .before .before .before .before .before .pre .2 .past .no-rest)
+    let start = c .before .before .before .before .before in
+    let A = start .args in
+    let sheet = start .pre .1 in
+    let so = start .pre .2 in
+    (refl, sheet, some-remain (A .doses) (A .intervals) (A .active .now) (A .lens .now) (A .grams .now) (λ j. A .fans) (sheet .few-doses) (sheet .few-intervals) (A .tally) _ _ so (start .pre .3), so .past .no-rest)
 
 reserve-requires : tie.Need-reserve-requires
 reserve-requires c κs = search needs
@@ -34,15 +36,20 @@ after-requires c κs = search needs
 same-length : tie.Need-same-length
 same-length c = search needs
 
+-- the next class with its row of the table and its shares
 returns : tie.Need-returns
 returns c =
-    let A = c .before .before .before .before .before .before .before .before .before .before .before .before .before .before .before .before .before .args in
-    let sheet = c .before .before .before .before .before .before .before .before .before .before .before .before .before .before .before .before .before .pre .1 in
-    let next = c .before .before .before .before .before .before .before .before .before .before .before .next-class .ensures in
-    let after = c .after .ensures in (
-      so-far-next (A .doses) (A .intervals) (A .active .now) (A .lens .now) (A .grams .now) (λ j. A .fans) (sheet .few-doses) (sheet .few-intervals) (A .tally) _ _ (c .before .before .before .before .before .before .before .before .before .before .before .before .before .before .before .before .before .pre .2) (c .before .before .before .before .before .before .before .before .before .before .before .before .before .before .before .before .before .pre .3)
-          (c .before .before .before .before .before .before .before .before .before .before .before .before .before .before .free-fans .result) (c .before .before .before .before .before .before .before .before .before .before .before .before .before .before .free-fans .ensures) (c .before .before .before .before .before .before .before .before .before .before .before .next-class .result .members) _ (c .before .before .before .before .before .before .before .before .before .before .before .next-class .result .reserved) _ _ (next .measured) (next .chosen) (c .after .result) _ _ after (c .before .before .before .before .before .before .before .reserve .ensures) (c .before .before .before .keep-shares .ensures) (sheet .no-interval),
-      omega (arith, after .classed, some-size (A .doses) (setOf (c .before .before .before .before .before .before .before .before .before .before .before .next-class .result .members)) (next .chosen .next .some)),
+    let start = c .before .before .before .before .before .before .before .before .before .before .before .before .before .before .before .before .before in
+    let A = start .args in
+    let sheet = start .pre .1 in
+    let left = c .before .before .before .before .before .before .before .before .before .before .before .before .before .before .free-fans in
+    let next = c .before .before .before .before .before .before .before .before .before .before .before .next-class in
+    let row = c .before .before .before .before .before .before .before .reserve .ensures in
+    let kept = c .before .before .before .keep-shares .ensures in
+    let after = c .after in (
+      so-far-next (A .doses) (A .intervals) (A .active .now) (A .lens .now) (A .grams .now) (λ j. A .fans) (sheet .few-doses) (sheet .few-intervals) (A .tally) _ _ (start .pre .2) (start .pre .3)
+          (left .result) (left .ensures) (next .result .members) _ (next .result .reserved) _ _ (next .ensures .measured) (next .ensures .chosen) (after .result) _ _ (after .ensures) row kept (sheet .no-interval),
+      omega (arith, after .ensures .classed, some-size (A .doses) (setOf (next .result .members)) (next .ensures .chosen .next .some)),
     )
 
 pub phase-spec : {M : Type 1} → statement M

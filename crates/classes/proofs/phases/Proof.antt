@@ -11,10 +11,10 @@ use Rattle.classes.proofs.phases.Statement.{statement}
 use Rattle.classes.proofs.phases.Tie as tie
 
 abbrev Inv-loop : tie.InvT-loop
-Inv-loop shares₀ table₀ active lens grams doses intervals fans sequence tally₀ shares table tally = (length shares ≡ 1128) × (tally .classed ≤ doses) × SoFar (settingFrom doses intervals active lens grams) (λ j. fans) tally table shares
+Inv-loop shares₀ table₀ release deadline instants active lens grams doses intervals fans sequence tally₀ shares table tally = (length shares ≡ 1128) × (tally .classed ≤ doses) × SoFar (settingFrom doses intervals active lens grams) (λ j. fans) tally table shares
 
 abbrev μ-loop : tie.MeasureT-loop
-μ-loop shares₀ table₀ active lens grams doses intervals fans sequence tally₀ shares table tally = doses - tally .classed
+μ-loop shares₀ table₀ release deadline instants active lens grams doses intervals fans sequence tally₀ shares table tally = doses - tally .classed
 
 start-requires : tie.Need-start-requires Inv-loop μ-loop
 start-requires c κs = search needs

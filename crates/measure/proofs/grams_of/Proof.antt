@@ -1,17 +1,18 @@
--- `grams_of` meets its contract: the sum so far is the weight of the doses passed.
-use Prim.Native.Nat.{_≤_, _-_, _*_}
-use mathlib.Core.Path.{_≡_}
+-- `grams_of` meets its contract: the sum so far is the weight of the doses passed, of 32 bits each.
+use Prim.Native.Nat.{ℕ, _≤_, _-_, _*_}
+use mathlib.Core.Path.{_≡_, ap, _∙_}
+use mathlib.Core.Bool.{false}
 use lib.ListN.{getD}
 use native.Mathlib.Omega.{arith}
 use borrow.Author.Needs.{needs}
-use Rattle.model.specs.Sets.{weight}
+use Rattle.model.specs.Sets.{on, weight}
 use Rattle.sheet.specs.Sheet.{setOf}
-use Rattle.steps.proofs.Loops.{weight-none, weight-step}
+use Rattle.steps.proofs.Loops.{at-end, weight-none, weight-step}
 use Rattle.measure.proofs.grams_of.Statement.{statement}
 use Rattle.measure.proofs.grams_of.Tie as tie
 
 abbrev Inv-loop : tie.InvT-loop
-Inv-loop grams doses set s₀ k₀ s k = (k ≤ doses) × (s ≡ weight k (λ i. getD grams i 0) (setOf set)) × (s ≤ k * 1000000)
+Inv-loop grams doses set s₀ k₀ s k = (k ≤ doses) × (s ≡ weight k (λ i. getD grams i 0) (setOf set)) × (s ≤ k * 4294967295)
 
 abbrev μ-loop : tie.MeasureT-loop
 μ-loop grams doses set s₀ k₀ s k = doses - k
@@ -22,21 +23,20 @@ loop-holds c = (omega arith, weight-none _ _, omega arith)
 array-read-on : tie.Need-array-read-on Inv-loop μ-loop
 array-read-on c = search needs
 
-mul-on : tie.Need-mul-on Inv-loop μ-loop
-mul-on c = search needs
+mul-wide : tie.Need-mul-wide Inv-loop μ-loop
+mul-wide c = search needs
 
-element-copy-out-on : tie.Need-element-copy-out-on Inv-loop μ-loop
-element-copy-out-on c = search needs
+element-copy-out-wide : tie.Need-element-copy-out-wide Inv-loop μ-loop
+element-copy-out-wide c = search needs
+
+wide-requires : tie.Need-wide-requires Inv-loop μ-loop
+wide-requires c κs = search needs
 
 on-requires : tie.Need-on-requires Inv-loop μ-loop
 on-requires c κs = search needs
 
 add-sum : tie.Need-add-sum Inv-loop μ-loop
-add-sum c =
-    let A = c .before .before .before .before .args in
-    let L = c .before .before .before .loop in
-    let w = weight-step 1000000 (L .k) (L .sum) (c .on .result) (λ i. getD (A .grams .now) i 0) (setOf (A .t3)) (L .inv .1) (L .inv .2) (c .on .ensures .0) (c .before .before .before .before .pre .1 (L .k)) in
-    omega (arith, w .1)
+add-sum c = omega (arith, c .on .ensures .1, c .before .wide .ensures .1, c .before .before .before .before .loop .inv .2)
 
 add-k : tie.Need-add-k Inv-loop μ-loop
 add-k c = search needs
@@ -46,16 +46,18 @@ loop-less c = search needs
 
 loop-again : tie.Need-loop-again Inv-loop μ-loop
 loop-again c =
-    let A = c .before .before .before .before .args in
-    let L = c .before .before .before .loop in
-    let w = weight-step 1000000 (L .k) (L .sum) (c .on .result) (λ i. getD (A .grams .now) i 0) (setOf (A .t3)) (L .inv .1) (L .inv .2) (c .on .ensures .0) (c .before .before .before .before .pre .1 (L .k)) in
-    (omega arith, w .0, w .1)
+    let A = c .before .before .before .before .before .args in
+    let L = c .before .before .before .before .loop in
+    let read = c .before .wide .ensures in
+    let here = c .on .ensures .0 ∙ ap (on (getD (A .t3) (L .k) false)) (read .0) in
+    let next = weight-step 4294967295 (L .k) (L .sum) (c .on .result) (λ i. getD (A .grams .now) i 0) (setOf (A .t3)) (L .inv .1) (L .inv .2) here (omega (arith, read .0, read .1)) in
+    (omega arith, next .0, next .1)
 
 returns : tie.Need-returns Inv-loop μ-loop
 returns c =
+    let A = c .before .before .args in
     let L = c .before .loop in
-    let e : L .k ≡ c .before .before .args .doses = omega arith in
-    (rw e at (L .inv .1), omega (arith, L .inv .2))
+    at-end (λ (k : ℕ). L .sum ≡ weight k (λ i. getD (A .grams .now) i 0) (setOf (A .t3))) (omega arith) (L .inv .1)
 
 pub grams-of-spec : {M : Type 1} → statement M
 grams-of-spec =
@@ -65,8 +67,9 @@ grams-of-spec =
     μ-loop
     loop-holds
     array-read-on
-    mul-on
-    element-copy-out-on
+    mul-wide
+    element-copy-out-wide
+    wide-requires
     on-requires
     add-sum
     add-k

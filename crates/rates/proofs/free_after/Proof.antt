@@ -45,7 +45,10 @@ loop-less : tie.Need-loop-less Inv-loop μ-loop
 loop-less c = search needs
 
 loop-again : tie.Need-loop-again Inv-loop μ-loop
-loop-again c = (search needs, omega arith, stored 0 (λ k. getD (c .before .before .before .args .t1) k 0 - getD (c .before .before .before .args .t2) k 0) (c .before .before .loop .left) (c .before .before .loop .j) _ (omega arith) (c .before .before .loop .inv .2) (c .less .ensures))
+loop-again c =
+    let A = c .before .before .before .args in
+    let L = c .before .before .loop in
+    (search needs, omega arith, stored 0 (λ k. getD (A .t1) k 0 - getD (A .t2) k 0) (L .left) (L .j) _ (omega arith) (L .inv .2) (c .less .ensures))
 
 returns : tie.Need-returns Inv-loop μ-loop
 returns c =

@@ -1,6 +1,6 @@
 -- `needs_of` meets its contract: every dose passed has its need.
 use Prim.Native.Nat.{ℕ, _<_, _≤_, _-_, _*_}
-use mathlib.Core.Path.{_≡_}
+use mathlib.Core.Path.{_≡_, ap, _∙_}
 use mathlib.Core.Bool.{false}
 use lib.ListN.{length, getD, length-set}
 use native.Mathlib.Omega.{arith}
@@ -23,18 +23,21 @@ loop-holds c = (omega arith, search needs, λ k h. absurd (omega arith))
 array-read-on : tie.Need-array-read-on Inv-loop μ-loop
 array-read-on c = search needs
 
+mul-wide : tie.Need-mul-wide Inv-loop μ-loop
+mul-wide c = search needs
+
+element-copy-out-wide : tie.Need-element-copy-out-wide Inv-loop μ-loop
+element-copy-out-wide c = search needs
+
+wide-requires : tie.Need-wide-requires Inv-loop μ-loop
+wide-requires c κs = search needs
+
+-- 32 bits of grams
 mul-on : tie.Need-mul-on Inv-loop μ-loop
-mul-on c = search needs
-
-element-copy-out-on : tie.Need-element-copy-out-on Inv-loop μ-loop
-element-copy-out-on c = search needs
-
-mul-on-2 : tie.Need-mul-on-2 Inv-loop μ-loop
-mul-on-2 c =
-    let A = c .before .before .before .args in
-    let L = c .before .before .loop in
-    let t : getD (A .grams .now) (L .k) 0 * A .p ≤ 1000000 * 1000000000 = mul-le-mul (c .before .before .before .pre .0 (L .k)) (c .before .before .before .pre .1) in
-    omega arith
+mul-on c =
+    let start = c .before .before .before .before in
+    let most : c .wide .result ≤ 4294967295 = omega (arith, c .wide .ensures .1) in
+    omega (arith, mul-le-mul most (start .pre))
 
 on-requires : tie.Need-on-requires Inv-loop μ-loop
 on-requires c κs = search needs
@@ -53,9 +56,10 @@ loop-less c = search needs
 
 loop-again : tie.Need-loop-again Inv-loop μ-loop
 loop-again c =
-    let A = c .before .before .before .before .args in
-    let L = c .before .before .before .loop in
-    (omega arith, simp length-set (L .inv .1), stored 0 (λ k. on (getD (A .t2) k false) (getD (A .grams .now) k 0 * A .p)) (L .needs) (L .k) _ (omega arith) (L .inv .2) (c .on .ensures .0))
+    let A = c .before .before .before .before .before .args in
+    let L = c .before .before .before .before .loop in
+    let need = c .on .ensures .0 ∙ ap (λ (w : ℕ). on (getD (A .t2) (L .k) false) (w * A .p)) (c .before .wide .ensures .0) in
+    (omega arith, simp length-set (L .inv .1), stored 0 (λ k. on (getD (A .t2) k false) (getD (A .grams .now) k 0 * A .p)) (L .needs) (L .k) _ (omega arith) (L .inv .2) need)
 
 returns : tie.Need-returns Inv-loop μ-loop
 returns c = λ k h. c .before .loop .inv .2 k (omega arith)
@@ -68,9 +72,10 @@ needs-of-spec =
     μ-loop
     loop-holds
     array-read-on
+    mul-wide
+    element-copy-out-wide
+    wide-requires
     mul-on
-    element-copy-out-on
-    mul-on-2
     on-requires
     mul-needs
     array-write-needs

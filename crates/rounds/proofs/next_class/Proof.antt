@@ -13,10 +13,10 @@ use Rattle.rounds.proofs.next_class.Statement.{statement}
 use Rattle.rounds.proofs.next_class.Tie as tie
 
 abbrev Inv-loop : tie.InvT-loop
-Inv-loop x₀ active lens grams doses intervals free sequence set₀ x set = (length x ≡ 1128) × Candidate (settingFrom doses intervals active lens grams) (rowOf free) (setOf set₀) (setOf set) × ((k : ℕ) → T (setOf set k) → T (setOf set₀ k))
+Inv-loop x₀ release deadline instants active lens grams doses intervals free sequence set₀ x set = (length x ≡ 1128) × Candidate (settingFrom doses intervals active lens grams) (rowOf free) (setOf set₀) (setOf set) × ((k : ℕ) → T (setOf set k) → T (setOf set₀ k))
 
 abbrev μ-loop : tie.MeasureT-loop
-μ-loop x₀ active lens grams doses intervals free sequence set₀ x set = weight doses (λ k. getD grams k 0) (setOf set)
+μ-loop x₀ release deadline instants active lens grams doses intervals free sequence set₀ x set = weight doses (λ k. getD grams k 0) (setOf set)
 
 loop-holds : tie.Need-loop-holds Inv-loop μ-loop
 loop-holds c = (c .before .pre .0, first-candidate _ _ (c .before .args .active .now) (c .before .args .lens .now) (c .before .args .grams .now) (c .before .args .free) _ (c .before .pre .2), λ k u. u)

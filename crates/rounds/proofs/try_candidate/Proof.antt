@@ -1,6 +1,9 @@
 -- `try_candidate` meets its contract: the arrays are those that the candidate asks for (OneRound).
+use mathlib.Core.Path.{refl}
+use native.Mathlib.Omega.{arith}
 use borrow.Author.Needs.{needs}
-use Rattle.measure.proofs.Laws.{measured}
+use Rattle.sheet.specs.Sheet.{setOf, rowOf}
+use Rattle.measure.proofs.Laws.{grams-most, measured, measured-same, time-most}
 use Rattle.rounds.proofs.OneRound.{tried}
 use Rattle.rounds.proofs.try_candidate.Statement.{statement}
 use Rattle.rounds.proofs.try_candidate.Tie as tie
@@ -12,16 +15,27 @@ open-fans-requires : tie.Need-open-fans-requires
 open-fans-requires c κs = search needs
 
 fan-time-requires : tie.Need-fan-time-requires
-fan-time-requires c κs = search needs
+fan-time-requires c κs = (c .before .before .before .pre .1 .few-intervals, c .open-fans .ensures .small)
 
+-- W fits
 lay-rooms-requires : tie.Need-lay-rooms-requires
-lay-rooms-requires c κs = search needs
+lay-rooms-requires c κs =
+    let start = c .before .before .before .before .before in
+    let sheet = start .pre .1 in
+    (search needs, sheet .short, omega (arith, c .before .before .before .grams-of .ensures, grams-most sheet (setOf (start .args .set))))
 
 holds-of-requires : tie.Need-holds-of-requires
-holds-of-requires c κs = search needs
+holds-of-requires c κs =
+    let start = c .before .before .before .before .before .before in
+    let sheet = start .pre .1 in
+    (sheet .short, c .before .before .before .open-fans .ensures .small, omega (arith, c .before .before .before .before .grams-of .ensures, grams-most sheet (setOf (start .args .set))))
 
+-- and P
 needs-of-requires : tie.Need-needs-of-requires
-needs-of-requires c κs = search needs
+needs-of-requires c κs =
+    let sheet = c .before .before .before .before .before .before .before .pre .1 in
+    let opened = c .before .before .before .before .open-fans in
+    omega (arith, c .before .before .before .fan-time .ensures, time-most sheet (opened .result) (opened .ensures .small))
 
 slice-aggregate-find-shares : tie.Need-slice-aggregate-find-shares
 slice-aggregate-find-shares c = search needs
@@ -47,13 +61,23 @@ dead-part-requires c κs = search needs
 same-length : tie.Need-same-length
 same-length c = search needs
 
+-- W, P and open fans are worked out by the windows, and so they are those of the table
 returns : tie.Need-returns
 returns c =
-    let A = c .before .before .before .before .before .before .before .before .before .before .before .before .before .before .before .before .before .before .before .args in
-    let sheet = c .before .before .before .before .before .before .before .before .before .before .before .before .before .before .before .before .before .before .before .pre .1 in
+    let start = c .before .before .before .before .before .before .before .before .before .before .before .before .before .before .before .before .before .before .before in
+    let A = start .args in
+    let sheet = start .pre .1 in
+    let weighed = c .before .before .before .before .before .before .before .before .before .before .before .before .before .before .before .before .before .grams-of in
     let opened = c .before .before .before .before .before .before .before .before .before .before .before .before .before .before .before .before .open-fans in
-    let known = measured _ _ _ _ _ (A .free) (A .set) sheet _ _ _ (opened .ensures .0) (c .before .before .before .before .before .before .before .before .before .before .before .before .before .before .before .before .before .grams-of .ensures .0) (c .before .before .before .before .before .before .before .before .before .before .before .before .before .before .before .fan-time .ensures .0) in
-    (known, opened .ensures .1, tried _ _ _ _ _ (A .free) (A .set) sheet (opened .result) _ _ known _ _ _ (c .before .before .before .before .before .before .before .before .before .before .before .before .before .lay-rooms .ensures .1) (c .before .before .before .before .before .before .before .before .before .before .before .before .holds-of .ensures) (c .before .before .before .before .before .before .before .before .before .before .before .needs-of .ensures) _ _ (c .dead-part .result) _ (c .before .before .before .before .before .before .find-shares .ensures) (c .before .all-met .ensures) (c .dead-part .ensures))
+    let timed = c .before .before .before .before .before .before .before .before .before .before .before .before .before .before .before .fan-time in
+    let roomy = c .before .before .before .before .before .before .before .before .before .before .before .before .before .lay-rooms .ensures .1 in
+    let held = c .before .before .before .before .before .before .before .before .before .before .before .before .holds-of .ensures in
+    let needed = c .before .before .before .before .before .before .before .before .before .before .before .needs-of .ensures in
+    let raised = c .before .before .before .before .before .before .find-shares .ensures in
+    let by-windows = measured (A .doses) (A .intervals) (A .release .now) (A .deadline .now) (A .grams .now) (A .instants .now) (setOf (A .set)) (A .set) (λ k l. refl) (rowOf (A .free)) (A .free) (λ j l. refl)
+    (opened .result) (weighed .result) (timed .result) (opened .ensures) (weighed .ensures) (timed .ensures) in
+    let known = measured-same _ _ (sheet .same) by-windows in
+    (known, opened .ensures .small, tried _ _ _ _ _ _ _ _ (A .free) (A .set) sheet (opened .result) _ _ known _ _ _ roomy held needed _ _ (c .dead-part .result) _ raised (c .before .all-met .ensures) (c .dead-part .ensures))
 
 pub try-candidate-spec : {M : Type 1} → statement M
 try-candidate-spec =
