@@ -8,6 +8,7 @@ use mathlib.Core.Logic.{_≢_, inl, inr}
 use lib.ListN.{length, getD, set}
 use lib.Seq.{getD-set-other}
 use native.Mathlib.Omega.{arith}
+use Rattle.model.specs.Limits.{cells, mostDoses, mostIntervals}
 use Rattle.model.specs.Sets.{sum}
 use Rattle.model.proofs.Fractions.{compare≤}
 use Rattle.model.proofs.Sums.{sum-up}
@@ -28,44 +29,44 @@ below-to P j r low here high i h = elim (compare≤ j i) [
 pub part-step : (n : ℕ) (f : ℕ → ℕ) (i s : ℕ) → i < n → s ≡ sum i f → (s + f i ≤ sum n f) × (s + f i ≡ sum (i + 1) f)
 part-step n f i s h e = let e′ : sum (i + 1) f ≡ sum i f + f i = sum-next i f in let p : sum (i + 1) f ≤ sum n f = sum-up f (i + 1) n (omega arith) in (omega arith, omega arith)
 
-pub given-sum : (x : List ℕ) (j : ℕ) → sum 24 (λ k. cell x k j) ≡ given x j
+pub given-sum : (x : List ℕ) (j : ℕ) → sum mostDoses (λ k. cell x k j) ≡ given x j
 unfolding given
 given-sum x j = refl
 
-pub got-sum : (x : List ℕ) (k : ℕ) → sum 47 (λ j. cell x k j) ≡ got x k
+pub got-sum : (x : List ℕ) (k : ℕ) → sum mostIntervals (λ j. cell x k j) ≡ got x k
 unfolding got
 got-sum x k = refl
 
 -- ---- one store
 
-module _ (x : List ℕ) (k j v : ℕ) (hk : k < 24) (hj : j < 47) (sized : length x ≡ 1128) where
-  pub cell-own : cell (set x (k * 47 + j) v) k j ≡ v
-  cell-own = at-same x 24 47 k j v hk hj sized
+module _ (x : List ℕ) (k j v : ℕ) (hk : k < mostDoses) (hj : j < mostIntervals) (sized : length x ≡ cells) where
+  pub cell-own : cell (set x (k * mostIntervals + j) v) k j ≡ v
+  cell-own = at-same x mostDoses mostIntervals k j v hk hj sized
 
-  pub got-own : got (set x (k * 47 + j) v) k + cell x k j ≡ got x k + v
+  pub got-own : got (set x (k * mostIntervals + j) v) k + cell x k j ≡ got x k + v
   unfolding got
-  got-own = row-change x 24 47 k j v hk hj sized
+  got-own = row-change x mostDoses mostIntervals k j v hk hj sized
 
-  pub given-own : given (set x (k * 47 + j) v) j + cell x k j ≡ given x j + v
+  pub given-own : given (set x (k * mostIntervals + j) v) j + cell x k j ≡ given x j + v
   unfolding given
-  given-own = col-change x 24 47 k j v hk hj sized
+  given-own = col-change x mostDoses mostIntervals k j v hk hj sized
 
-  pub got-else : (e : ℕ) → e ≢ k → got (set x (k * 47 + j) v) e ≡ got x e
+  pub got-else : (e : ℕ) → e ≢ k → got (set x (k * mostIntervals + j) v) e ≡ got x e
   unfolding got
-  got-else e d = row-other x 24 47 k j v hk hj sized e d
+  got-else e d = row-other x mostDoses mostIntervals k j v hk hj sized e d
 
-  pub given-else : (i : ℕ) → i < 47 → i ≢ j → given (set x (k * 47 + j) v) i ≡ given x i
+  pub given-else : (i : ℕ) → i < mostIntervals → i ≢ j → given (set x (k * mostIntervals + j) v) i ≡ given x i
   unfolding given
-  given-else i h d = col-other x 24 47 k j v hk hj sized i h d
+  given-else i h d = col-other x mostDoses mostIntervals k j v hk hj sized i h d
 
   -- every cell is within its room after the store, if this one is
-  pub cells-after : (rooms : List ℕ) → ((e i : ℕ) → e < 24 → i < 47 → cell x e i ≤ cell rooms e i) → v ≤ cell rooms k j
-      → (e i : ℕ) → e < 24 → i < 47 → cell (set x (k * 47 + j) v) e i ≤ cell rooms e i
+  pub cells-after : (rooms : List ℕ) → ((e i : ℕ) → e < mostDoses → i < mostIntervals → cell x e i ≤ cell rooms e i) → v ≤ cell rooms k j
+      → (e i : ℕ) → e < mostDoses → i < mostIntervals → cell (set x (k * mostIntervals + j) v) e i ≤ cell rooms e i
   cells-after rooms all own e i he hi =
       alike e k
       (λ p. alike i j (λ q. rw (p, q) (omega (arith, cell-own)))
-      (λ q. omega (arith, all e i he hi, at-other-col x 24 47 k j v hk hj sized e i hi q)))
-      (λ p. omega (arith, all e i he hi, at-other-row x 24 47 k j v hk hj sized e i hi p))
+      (λ q. omega (arith, all e i he hi, at-other-col x mostDoses mostIntervals k j v hk hj sized e i hi q)))
+      (λ p. omega (arith, all e i he hi, at-other-row x mostDoses mostIntervals k j v hk hj sized e i hi p))
 
 -- ---- marks
 
@@ -96,7 +97,7 @@ kept-trans p q = record {
   more = λ k h. q .more k (p .more k h);
   fewer = omega arith;
   doses = λ d j hd hj h. q .doses d j hd hj (p .more d h) ∙ p .doses d j hd hj h;
-  intervals = λ d j hd hj h. q .intervals d j hd hj (p .more (24 + j) h) ∙ p .intervals d j hd hj h;
+  intervals = λ d j hd hj h. q .intervals d j hd hj (p .more (mostDoses + j) h) ∙ p .intervals d j hd hj h;
 }
 
 -- a station is marked
@@ -109,13 +110,13 @@ kept-mark s x i q e = record {
 }
 
 -- a cell whose dose and interval were not visited is written
-pub kept-write : {s t : List Bool} {x y : List ℕ} (d j v : ℕ) → d < 24 → j < 47 → Kept s x t y → (Seen s d → ⊥) → (Seen s (24 + j) → ⊥)
-    → Kept s x t (set y (d * 47 + j) v)
+pub kept-write : {s t : List Bool} {x y : List ℕ} (d j v : ℕ) → d < mostDoses → j < mostIntervals → Kept s x t y → (Seen s d → ⊥) → (Seen s (mostDoses + j) → ⊥)
+    → Kept s x t (set y (d * mostIntervals + j) v)
 kept-write {s} {t} {x} {y} d j v hd hj p e f = record {
   more = p .more;
   fewer = p .fewer;
-  doses = λ d′ j′ hd′ hj′ h. getD-set-other y (d * 47 + j) (d′ * 47 + j′) v 0 (λ q. e (ap (λ (n : ℕ). getD s n false) (sym (cell-row 47 d′ j′ d j hj′ hj q)) ∙ h)) ∙ p .doses d′ j′ hd′ hj′ h;
-  intervals = λ d′ j′ hd′ hj′ h. getD-set-other y (d * 47 + j) (d′ * 47 + j′) v 0 (λ q. f (ap (λ (n : ℕ). getD s (24 + n) false) (sym (cell-col 47 d′ j′ d j hj′ hj q)) ∙ h)) ∙ p .intervals d′ j′ hd′ hj′ h;
+  doses = λ d′ j′ hd′ hj′ h. getD-set-other y (d * mostIntervals + j) (d′ * mostIntervals + j′) v 0 (λ q. e (ap (λ (n : ℕ). getD s n false) (sym (cell-row mostIntervals d′ j′ d j hj′ hj q)) ∙ h)) ∙ p .doses d′ j′ hd′ hj′ h;
+  intervals = λ d′ j′ hd′ hj′ h. getD-set-other y (d * mostIntervals + j) (d′ * mostIntervals + j′) v 0 (λ q. f (ap (λ (n : ℕ). getD s (mostDoses + n) false) (sym (cell-col mostIntervals d′ j′ d j hj′ hj q)) ∙ h)) ∙ p .intervals d′ j′ hd′ hj′ h;
 }
 
 -- a search that starts by a mark has fewer stations left at each call
@@ -133,27 +134,27 @@ exhausted-none rooms holds least x s = record {
 
 pub exhausted-trans : {rooms holds x y z : List ℕ} {least : ℕ} {s t u : List Bool} → Exhausted rooms holds least x s t → Exhausted rooms holds least x t u → Kept t y u z → Exhausted rooms holds least x s u
 exhausted-trans {t = t} p q k = record {
-  doses = λ e j he hj f h l. known (getD t e false) (λ m. k .more (24 + j) (p .doses e j he hj f m l)) (λ m. q .doses e j he hj m h l);
-  spares = λ j hj f h. known (getD t (24 + j) false) (λ m. p .spares j hj f m) (λ m. q .spares j hj m h);
-  intervals = λ e j he hj f h l. known (getD t (24 + j) false) (λ m. k .more e (p .intervals e j he hj f m l)) (λ m. q .intervals e j he hj m h l);
+  doses = λ e j he hj f h l. known (getD t e false) (λ m. k .more (mostDoses + j) (p .doses e j he hj f m l)) (λ m. q .doses e j he hj m h l);
+  spares = λ j hj f h. known (getD t (mostDoses + j) false) (λ m. p .spares j hj f m) (λ m. q .spares j hj m h);
+  intervals = λ e j he hj f h l. known (getD t (mostDoses + j) false) (λ m. k .more e (p .intervals e j he hj f m l)) (λ m. q .intervals e j he hj m h l);
 }
 
 -- the dose that was marked first is shut too
-pub exhausted-dose : {rooms holds x : List ℕ} {least : ℕ} {m : List Bool} (s : List Bool) (d : ℕ) → d < 24 → Exhausted rooms holds least x (set s d true) m
-    → ((j : ℕ) → j < 47 → cell x d j + least ≤ cell rooms d j → Seen m (24 + j)) → Exhausted rooms holds least x s m
+pub exhausted-dose : {rooms holds x : List ℕ} {least : ℕ} {m : List Bool} (s : List Bool) (d : ℕ) → d < mostDoses → Exhausted rooms holds least x (set s d true) m
+    → ((j : ℕ) → j < mostIntervals → cell x d j + least ≤ cell rooms d j → Seen m (mostDoses + j)) → Exhausted rooms holds least x s m
 exhausted-dose s d hd p all = record {
   doses = λ e j he hj f h l. alike e d (λ q. all j hj (rw q at l)) (λ q. p .doses e j he hj (getD-set-other s d e true false q ∙ f) h l);
-  spares = λ j hj f h. p .spares j hj (getD-set-other s d (24 + j) true false (λ z. omega arith) ∙ f) h;
-  intervals = λ e j he hj f h l. p .intervals e j he hj (getD-set-other s d (24 + j) true false (λ z. omega arith) ∙ f) h l;
+  spares = λ j hj f h. p .spares j hj (getD-set-other s d (mostDoses + j) true false (λ z. omega arith) ∙ f) h;
+  intervals = λ e j he hj f h l. p .intervals e j he hj (getD-set-other s d (mostDoses + j) true false (λ z. omega arith) ∙ f) h l;
 }
 
 -- and the interval
-pub exhausted-interval : {rooms holds x : List ℕ} {least : ℕ} {m : List Bool} (s : List Bool) (i : ℕ) → i < 47 → Exhausted rooms holds least x (set s (24 + i) true) m
-    → getD holds i 0 < given x i + least → ((e : ℕ) → e < 24 → least ≤ cell x e i → Seen m e) → Exhausted rooms holds least x s m
+pub exhausted-interval : {rooms holds x : List ℕ} {least : ℕ} {m : List Bool} (s : List Bool) (i : ℕ) → i < mostIntervals → Exhausted rooms holds least x (set s (mostDoses + i) true) m
+    → getD holds i 0 < given x i + least → ((e : ℕ) → e < mostDoses → least ≤ cell x e i → Seen m e) → Exhausted rooms holds least x s m
 exhausted-interval s i hi p none all = record {
-  doses = λ e j he hj f h l. p .doses e j he hj (getD-set-other s (24 + i) e true false (λ z. omega arith) ∙ f) h l;
-  spares = λ j hj f h. alike j i (λ q. rw q none) (λ q. p .spares j hj (getD-set-other s (24 + i) (24 + j) true false (λ z. q (omega arith)) ∙ f) h);
-  intervals = λ e j he hj f h l. alike j i (λ q. all e he (rw q at l)) (λ q. p .intervals e j he hj (getD-set-other s (24 + i) (24 + j) true false (λ z. q (omega arith)) ∙ f) h l);
+  doses = λ e j he hj f h l. p .doses e j he hj (getD-set-other s (mostDoses + i) e true false (λ z. omega arith) ∙ f) h l;
+  spares = λ j hj f h. alike j i (λ q. rw q none) (λ q. p .spares j hj (getD-set-other s (mostDoses + i) (mostDoses + j) true false (λ z. q (omega arith)) ∙ f) h);
+  intervals = λ e j he hj f h l. alike j i (λ q. all e he (rw q at l)) (λ q. p .intervals e j he hj (getD-set-other s (mostDoses + i) (mostDoses + j) true false (λ z. q (omega arith)) ∙ f) h l);
 }
 
 -- ---- totals
@@ -172,7 +173,7 @@ interval-still j a f e h = record {
   doses = λ k hk. rw e;
 }
 
-pub interval-none : {rooms holds x y : List ℕ} (j : ℕ) → j < 47 → Bounded rooms holds x → y ≡ x → IntervalDown rooms holds j 0 x y
+pub interval-none : {rooms holds x y : List ℕ} (j : ℕ) → j < mostIntervals → Bounded rooms holds x → y ≡ x → IntervalDown rooms holds j 0 x y
 interval-none j hj f e = interval-still j 0 f e (omega (arith, f .held j hj))
 
 -- the shares before are the same
@@ -183,8 +184,8 @@ pub up-from : {rooms holds x y z : List ℕ} {d a : ℕ} → x ≡ z → DoseUp 
 up-from e p = rw e at p
 
 -- dose d takes a in interval j, which could hold a more
-pub dose-write : {rooms holds x y : List ℕ} (d j a : ℕ) → d < 24 → j < 47 → length y ≡ 1128 → IntervalDown rooms holds j a x y
-    → cell y d j + a ≤ cell rooms d j → DoseUp rooms holds d a x (set y (d * 47 + j) (cell y d j + a))
+pub dose-write : {rooms holds x y : List ℕ} (d j a : ℕ) → d < mostDoses → j < mostIntervals → length y ≡ cells → IntervalDown rooms holds j a x y
+    → cell y d j + a ≤ cell rooms d j → DoseUp rooms holds d a x (set y (d * mostIntervals + j) (cell y d j + a))
 dose-write {rooms} {holds} {x} {y} d j a hd hj sized p room = record {
   bounded = record {
     roomy = cells-after y d j (cell y d j + a) hd hj sized rooms (p .roomy) room;
@@ -197,8 +198,8 @@ dose-write {rooms} {holds} {x} {y} d j a hd hj sized p room = record {
 }
 
 -- dose d, which has a more elsewhere, gives a back in interval j
-pub interval-write : {rooms holds x y : List ℕ} (d j a : ℕ) → d < 24 → j < 47 → length y ≡ 1128 → DoseUp rooms holds d a x y
-    → a ≤ cell y d j → IntervalDown rooms holds j a x (set y (d * 47 + j) (cell y d j - a))
+pub interval-write : {rooms holds x y : List ℕ} (d j a : ℕ) → d < mostDoses → j < mostIntervals → length y ≡ cells → DoseUp rooms holds d a x y
+    → a ≤ cell y d j → IntervalDown rooms holds j a x (set y (d * mostIntervals + j) (cell y d j - a))
 interval-write {rooms} {holds} {x} {y} d j a hd hj sized p less = record {
   roomy = cells-after y d j (cell y d j - a) hd hj sized rooms (p .bounded .roomy) (omega (arith, p .bounded .roomy d j hd hj));
   own = omega (arith, p .bounded .held j hj, given-own y d j (cell y d j - a) hd hj sized);

@@ -8,6 +8,7 @@ use lib.ListN.{length, getD, set}
 use lib.Seq.{getD-set-same}
 use native.Mathlib.Omega.{arith}
 use borrow.Author.Count.{below-more}
+use Rattle.model.specs.Limits.{cells, mostDoses, mostIntervals, mostMarks}
 use Rattle.steps.proofs.Tests.{not-both}
 use Rattle.chains.specs.Chains.{cell, Seen, Unseen, given, Bounded, Kept, Exhausted, Pushed, FromDose, FromInterval}
 use Rattle.chains.proofs.Laws.{below-to, kept-refl, kept-trans, kept-mark, kept-write, exhausted-none, exhausted-trans, exhausted-dose, exhausted-interval, dose-still, interval-still, interval-none, dose-write, interval-write, down-from, up-from}
@@ -55,7 +56,7 @@ module _ {rooms holds : List ℕ} {least : ℕ} {Way : ℕ → Type 0} {to : ℕ
 
 -- the loop over the intervals, from dose d: a way is open where its share is below its room
 abbrev pub DoseTried : (rooms holds : List ℕ) (least d : ℕ) (s : List Bool) (x : List ℕ) (t : List Bool) (y : List ℕ) → ℕ → Type 0
-DoseTried rooms holds least d s x t y j = Tried rooms holds least (λ i. cell x d i + least ≤ cell rooms d i) (λ i. 24 + i) s x t y j
+DoseTried rooms holds least d s x t y j = Tried rooms holds least (λ i. cell x d i + least ≤ cell rooms d i) (λ i. mostDoses + i) s x t y j
 
 -- the loop over the doses, from interval j: a way is open where a dose has a share
 abbrev pub IntervalTried : (rooms holds : List ℕ) (least j : ℕ) (s : List Bool) (x : List ℕ) (t : List Bool) (y : List ℕ) → ℕ → Type 0
@@ -89,12 +90,12 @@ module _ {rooms holds : List ℕ} {least k want : ℕ} {s : List Bool} {x : List
 
 -- ---- the search from a dose
 
-module _ {rooms holds : List ℕ} {least d : ℕ} {x : List ℕ} (want : ℕ) (s : List Bool) (hd : d < 24) (bounded : Bounded rooms holds x) where
+module _ {rooms holds : List ℕ} {least d : ℕ} {x : List ℕ} (want : ℕ) (s : List Bool) (hd : d < mostDoses) (bounded : Bounded rooms holds x) where
   -- nothing is done: too little is wanted, or the dose was seen before
   pub dose-stops : (least ≤ want → Seen s d) → FromDose rooms holds least d want s x 0 s x
   dose-stops seen = record { pushed = pushed-nothing seen; up = dose-still d bounded refl }
 
-  module _ (long : length s ≡ 72) (new : Unseen s d) {t : List Bool} {y : List ℕ} {j : ℕ} (tried : DoseTried rooms holds least d (set s d true) x t y j) where
+  module _ (long : length s ≡ mostMarks) (new : Unseen s d) {t : List Bool} {y : List ℕ} {j : ℕ} (tried : DoseTried rooms holds least d (set s d true) x t y j) where
     -- the dose is marked
     dose-seen : Seen t d
     dose-seen = tried .kept .more d (mark s d (omega arith))
@@ -104,64 +105,64 @@ module _ {rooms holds : List ℕ} {least d : ℕ} {x : List ℕ} (want : ℕ) (s
     dose-kept = kept-trans (kept-mark s x d (omega arith) new) (tried .kept)
 
     -- every interval was tried
-    pub dose-fails : 47 ≤ j → FromDose rooms holds least d want s x 0 t y
+    pub dose-fails : mostIntervals ≤ j → FromDose rooms holds least d want s x 0 t y
     dose-fails h = record {
       pushed = pushed-in-vain dose-kept dose-seen (tried .same) (exhausted-dose s d hd (tried .exhausted) (λ i l. tried .passed i (omega arith)));
       up = dose-still d bounded (tried .same);
     }
 
-    module _ {w room a : ℕ} {u : List Bool} {z : List ℕ} (hj : j < 47) (free : room ≡ cell rooms d j - cell y d j) (capped : w ≡ min want room)
+    module _ {w room a : ℕ} {u : List Bool} {z : List ℕ} (hj : j < mostIntervals) (free : room ≡ cell rooms d j - cell y d j) (capped : w ≡ min want room)
         (called : FromInterval rooms holds least j w t y a u z) (some : 0 < a) where
       -- what is pushed fits the room of the dose
       pub dose-fits : cell z d j + a ≤ cell rooms d j
       dose-fits = omega (arith, called .pushed .within, called .pushed .kept .doses d j hd hj dose-seen)
 
       -- the dose takes what the interval found
-      pub dose-pushes : length z ≡ 1128 → FromDose rooms holds least d want s x a u (set z (d * 47 + j) (cell z d j + a))
+      pub dose-pushes : length z ≡ cells → FromDose rooms holds least d want s x a u (set z (d * mostIntervals + j) (cell z d j + a))
       dose-pushes sized = record {
         pushed = pushed-some new
-            (kept-write d j (cell z d j + a) hd hj (kept-trans dose-kept (called .pushed .kept)) (λ h. not-both h new) (λ h. omega (arith, called .pushed .none (dose-kept .more (24 + j) h))))
+            (kept-write d j (cell z d j + a) hd hj (kept-trans dose-kept (called .pushed .kept)) (λ h. not-both h new) (λ h. omega (arith, called .pushed .none (dose-kept .more (mostDoses + j) h))))
             (called .pushed .kept .more d dose-seen) (omega (arith, called .pushed .within)) some;
         up = dose-write d j a hd hj sized (down-from (tried .same) (called .down)) dose-fits;
       }
 
 -- ---- the search from an interval
 
-module _ {rooms holds : List ℕ} {least j : ℕ} {x : List ℕ} (want : ℕ) (s : List Bool) (hj : j < 47) (bounded : Bounded rooms holds x) where
+module _ {rooms holds : List ℕ} {least j : ℕ} {x : List ℕ} (want : ℕ) (s : List Bool) (hj : j < mostIntervals) (bounded : Bounded rooms holds x) where
   -- nothing is done: too little is wanted, or the interval was seen before
-  pub interval-stops : (least ≤ want → Seen s (24 + j)) → FromInterval rooms holds least j want s x 0 s x
+  pub interval-stops : (least ≤ want → Seen s (mostDoses + j)) → FromInterval rooms holds least j want s x 0 s x
   interval-stops seen = record { pushed = pushed-nothing seen; down = interval-none j hj bounded refl }
 
-  module _ (long : length s ≡ 72) (new : Unseen s (24 + j)) where
+  module _ (long : length s ≡ mostMarks) (new : Unseen s (mostDoses + j)) where
     module _ {held spare : ℕ} (total : held ≡ given x j) (left : spare ≡ getD holds j 0 - held) where
       -- the interval has spare time
-      pub interval-spares : {a : ℕ} → a ≡ min want spare → 0 < a → FromInterval rooms holds least j want s x a (set s (24 + j) true) x
+      pub interval-spares : {a : ℕ} → a ≡ min want spare → 0 < a → FromInterval rooms holds least j want s x a (set s (mostDoses + j) true) x
       interval-spares capped some = record {
-        pushed = pushed-some new (kept-mark s x (24 + j) (omega arith) new) (mark s (24 + j) (omega arith)) (omega arith) some;
+        pushed = pushed-some new (kept-mark s x (mostDoses + j) (omega arith) new) (mark s (mostDoses + j) (omega arith)) (omega arith) some;
         down = interval-still j _ bounded refl (omega arith);
       }
 
       -- it has too little, and every dose was tried
-      pub interval-fails : {t : List Bool} {y : List ℕ} {d : ℕ} → spare < least → IntervalTried rooms holds least j (set s (24 + j) true) x t y d → 24 ≤ d → FromInterval rooms holds least j want s x 0 t y
+      pub interval-fails : {t : List Bool} {y : List ℕ} {d : ℕ} → spare < least → IntervalTried rooms holds least j (set s (mostDoses + j) true) x t y d → mostDoses ≤ d → FromInterval rooms holds least j want s x 0 t y
       interval-fails short tried h = record {
-        pushed = pushed-in-vain (kept-trans (kept-mark s x (24 + j) (omega arith) new) (tried .kept)) (tried .kept .more (24 + j) (mark s (24 + j) (omega arith))) (tried .same)
+        pushed = pushed-in-vain (kept-trans (kept-mark s x (mostDoses + j) (omega arith) new) (tried .kept)) (tried .kept .more (mostDoses + j) (mark s (mostDoses + j) (omega arith))) (tried .same)
             (exhausted-interval s j hj (tried .exhausted) (omega arith) (λ e l. tried .passed e (omega arith)));
         down = interval-none j hj bounded (tried .same);
       }
 
-    module _ {t u : List Bool} {y z : List ℕ} {d w a : ℕ} (tried : IntervalTried rooms holds least j (set s (24 + j) true) x t y d) (hd : d < 24) (capped : w ≡ min want (cell y d j))
+    module _ {t u : List Bool} {y z : List ℕ} {d w a : ℕ} (tried : IntervalTried rooms holds least j (set s (mostDoses + j) true) x t y d) (hd : d < mostDoses) (capped : w ≡ min want (cell y d j))
         (called : FromDose rooms holds least d w t y a u z) where
       -- the dose has as much there as it found elsewhere
       pub interval-has : a ≤ cell z d j
-      interval-has = omega (arith, called .pushed .within, called .pushed .kept .intervals d j hd hj (tried .kept .more (24 + j) (mark s (24 + j) (omega arith))))
+      interval-has = omega (arith, called .pushed .within, called .pushed .kept .intervals d j hd hj (tried .kept .more (mostDoses + j) (mark s (mostDoses + j) (omega arith))))
 
       -- the dose gives it back
-      pub interval-pushes : 0 < a → length z ≡ 1128 → FromInterval rooms holds least j want s x a u (set z (d * 47 + j) (cell z d j - a))
+      pub interval-pushes : 0 < a → length z ≡ cells → FromInterval rooms holds least j want s x a u (set z (d * mostIntervals + j) (cell z d j - a))
       interval-pushes some sized =
-          let kept : Kept s x t y = kept-trans (kept-mark s x (24 + j) (omega arith) new) (tried .kept) in
+          let kept : Kept s x t y = kept-trans (kept-mark s x (mostDoses + j) (omega arith) new) (tried .kept) in
           record {
             pushed = pushed-some new
                 (kept-write d j (cell z d j - a) hd hj (kept-trans kept (called .pushed .kept)) (λ h. omega (arith, called .pushed .none (kept .more d h))) (λ h. not-both h new))
-                (called .pushed .kept .more (24 + j) (tried .kept .more (24 + j) (mark s (24 + j) (omega arith)))) (omega (arith, called .pushed .within)) some;
+                (called .pushed .kept .more (mostDoses + j) (tried .kept .more (mostDoses + j) (mark s (mostDoses + j) (omega arith)))) (omega (arith, called .pushed .within)) some;
             down = interval-write d j a hd hj sized (up-from (tried .same) (called .up)) interval-has;
           }

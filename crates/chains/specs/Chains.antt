@@ -6,6 +6,7 @@ use mathlib.Core.Bool.{Bool, true, false}
 use mathlib.Core.Path.{_≡_}
 use mathlib.Core.Logic.{_≢_}
 use lib.ListN.{length, getD}
+use Rattle.model.specs.Limits.{cells, mostDoses, mostIntervals}
 use Rattle.model.specs.Sets.{sum}
 
 -- how many stations are not yet seen
@@ -16,7 +17,7 @@ unseenCount (false ∷ l) = suc (unseenCount l)
 
 -- the number of dose k in interval j: its share, or its room
 abbrev pub cell : List ℕ → ℕ → ℕ → ℕ
-cell x k j = getD x (k * 47 + j) 0
+cell x k j = getD x (k * mostIntervals + j) 0
 
 -- station k was seen
 abbrev pub Seen : List Bool → ℕ → Type 0
@@ -28,35 +29,35 @@ Unseen s k = getD s k false ≡ false
 
 -- what dose k has in all intervals
 unfoldable pub got : List ℕ → ℕ → ℕ
-got x k = sum 47 (λ j. cell x k j)
+got x k = sum mostIntervals (λ j. cell x k j)
 
 -- what is given out in interval j
 unfoldable pub given : List ℕ → ℕ → ℕ
-given x j = sum 24 (λ k. cell x k j)
+given x j = sum mostDoses (λ k. cell x k j)
 
 -- the arrays have their lengths
 pub record Sized (x r h : List ℕ) : Type 0 where
-  pub shares : length x ≡ 1128
-  pub rooms : length r ≡ 1128
-  pub holds : length h ≡ 47
+  pub shares : length x ≡ cells
+  pub rooms : length r ≡ cells
+  pub holds : length h ≡ mostIntervals
 
 -- every share is within its room, and every interval within its reserved time
 pub record Bounded (rooms holds x : List ℕ) : Type 0 where
-  pub roomy : (k j : ℕ) → k < 24 → j < 47 → cell x k j ≤ cell rooms k j
-  pub held : (j : ℕ) → j < 47 → given x j ≤ getD holds j 0
+  pub roomy : (k j : ℕ) → k < mostDoses → j < mostIntervals → cell x k j ≤ cell rooms k j
+  pub held : (j : ℕ) → j < mostIntervals → given x j ≤ getD holds j 0
 
 -- a search leaves the shares of stations that were seen before it alone: s and x before it, t and y after
 pub record Kept (s : List Bool) (x : List ℕ) (t : List Bool) (y : List ℕ) : Type 0 where
   pub more : (k : ℕ) → Seen s k → Seen t k
   pub fewer : unseenCount t ≤ unseenCount s
-  pub doses : (d j : ℕ) → d < 24 → j < 47 → Seen s d → cell y d j ≡ cell x d j
-  pub intervals : (d j : ℕ) → d < 24 → j < 47 → Seen s (24 + j) → cell y d j ≡ cell x d j
+  pub doses : (d j : ℕ) → d < mostDoses → j < mostIntervals → Seen s d → cell y d j ≡ cell x d j
+  pub intervals : (d j : ℕ) → d < mostDoses → j < mostIntervals → Seen s (mostDoses + j) → cell y d j ≡ cell x d j
 
 -- of the stations that s lacks and t has, every way on leads to one that t has; what is less than `least` is no way on
 pub record Exhausted (rooms holds : List ℕ) (least : ℕ) (x : List ℕ) (s t : List Bool) : Type 0 where
-  pub doses : (e j : ℕ) → e < 24 → j < 47 → Unseen s e → Seen t e → cell x e j + least ≤ cell rooms e j → Seen t (24 + j)
-  pub spares : (j : ℕ) → j < 47 → Unseen s (24 + j) → Seen t (24 + j) → getD holds j 0 < given x j + least
-  pub intervals : (e j : ℕ) → e < 24 → j < 47 → Unseen s (24 + j) → Seen t (24 + j) → least ≤ cell x e j → Seen t e
+  pub doses : (e j : ℕ) → e < mostDoses → j < mostIntervals → Unseen s e → Seen t e → cell x e j + least ≤ cell rooms e j → Seen t (mostDoses + j)
+  pub spares : (j : ℕ) → j < mostIntervals → Unseen s (mostDoses + j) → Seen t (mostDoses + j) → getD holds j 0 < given x j + least
+  pub intervals : (e j : ℕ) → e < mostDoses → j < mostIntervals → Unseen s (mostDoses + j) → Seen t (mostDoses + j) → least ≤ cell x e j → Seen t e
 
 -- what both searches promise, from station k for at most w: the amount a was pushed along a chain, or none is left
 pub record Pushed (rooms holds : List ℕ) (least k w : ℕ) (s : List Bool) (x : List ℕ) (a : ℕ) (t : List Bool) (y : List ℕ) : Type 0 where
@@ -71,14 +72,14 @@ pub record Pushed (rooms holds : List ℕ) (least k w : ℕ) (s : List Bool) (x 
 pub record DoseUp (rooms holds : List ℕ) (d a : ℕ) (x y : List ℕ) : Type 0 where
   pub bounded : Bounded rooms holds y
   pub own : got y d ≡ got x d + a
-  pub others : (k : ℕ) → k < 24 → k ≢ d → got y k ≡ got x k
+  pub others : (k : ℕ) → k < mostDoses → k ≢ d → got y k ≡ got x k
 
 -- every dose has what it had, and interval j could hold a more
 pub record IntervalDown (rooms holds : List ℕ) (j a : ℕ) (x y : List ℕ) : Type 0 where
-  pub roomy : (k i : ℕ) → k < 24 → i < 47 → cell y k i ≤ cell rooms k i
+  pub roomy : (k i : ℕ) → k < mostDoses → i < mostIntervals → cell y k i ≤ cell rooms k i
   pub own : given y j + a ≤ getD holds j 0
-  pub others : (i : ℕ) → i < 47 → i ≢ j → given y i ≤ getD holds i 0
-  pub doses : (k : ℕ) → k < 24 → got y k ≡ got x k
+  pub others : (i : ℕ) → i < mostIntervals → i ≢ j → given y i ≤ getD holds i 0
+  pub doses : (k : ℕ) → k < mostDoses → got y k ≡ got x k
 
 -- the search from a dose
 pub record FromDose (rooms holds : List ℕ) (least d w : ℕ) (s : List Bool) (x : List ℕ) (a : ℕ) (t : List Bool) (y : List ℕ) : Type 0 where
@@ -87,5 +88,5 @@ pub record FromDose (rooms holds : List ℕ) (least d w : ℕ) (s : List Bool) (
 
 -- the search from an interval
 pub record FromInterval (rooms holds : List ℕ) (least j w : ℕ) (s : List Bool) (x : List ℕ) (a : ℕ) (t : List Bool) (y : List ℕ) : Type 0 where
-  pub pushed : Pushed rooms holds least (24 + j) w s x a t y
+  pub pushed : Pushed rooms holds least (mostDoses + j) w s x a t y
   pub down : IntervalDown rooms holds j a x y

@@ -2,27 +2,31 @@
 // interval j at d * 47 + j; rooms are laid out the same way. A station is a dose, 0 to 23, or an interval, 24 to 70; a place more rounds the
 // marks up to whole words, which copies them faster.
 use steps::less;
+use steps::limits::MOST_DOSES;
+use steps::limits::MOST_INTERVALS;
+use steps::limits::MOST_MARKS;
 use steps::smaller;
 ghost use mathlib.Core.Path.{_≡_};
 ghost use Prim.Native.Nat.{ℕ, _+_, _<_, _≤_};
 ghost use lib.ListN.{length};
+ghost use Rattle.model.specs.Limits.{cells, mostDoses, mostIntervals};
 ghost use Rattle.chains.specs.Chains.{cell, got, given, Bounded, Sized, FromDose, FromInterval};
 
 // What a search pushed along a chain, and the stations seen on the way.
 pub struct Push {
     pub amount: u64,
-    pub seen: [bool; 72],
+    pub seen: [bool; MOST_MARKS],
 }
 
 // What is given out in interval j, at most `holds`: so no sum wraps.
 pub fn interval_total(shares: &[u64], j: usize, holds: u64) -> u64
-    requires { ⌜ (length (now shares) ≡ 1128) × (j < 47) × (given (now shares) j ≤ holds) ⌝ }
+    requires { ⌜ (length (now shares) ≡ cells) × (j < mostIntervals) × (given (now shares) j ≤ holds) ⌝ }
     ensures { λ r. ⌜ r ≡ given (now (shares .entry)) j ⌝ }
 {
     let mut sum: u64 = 0;
     let mut d = 0;
-    while d < 24 {
-        sum += shares[d * 47 + j];
+    while d < MOST_DOSES {
+        sum += shares[d * MOST_INTERVALS + j];
         d += 1;
     }
     sum
@@ -30,13 +34,13 @@ pub fn interval_total(shares: &[u64], j: usize, holds: u64) -> u64
 
 // What dose d has in all intervals, at most `need`.
 pub fn dose_total(shares: &[u64], d: usize, need: u64) -> u64
-    requires { ⌜ (length (now shares) ≡ 1128) × (d < 24) × (got (now shares) d ≤ need) ⌝ }
+    requires { ⌜ (length (now shares) ≡ cells) × (d < mostDoses) × (got (now shares) d ≤ need) ⌝ }
     ensures { λ r. ⌜ r ≡ got (now (shares .entry)) d ⌝ }
 {
     let mut sum: u64 = 0;
     let mut j = 0;
-    while j < 47 {
-        sum += shares[d * 47 + j];
+    while j < MOST_INTERVALS {
+        sum += shares[d * MOST_INTERVALS + j];
         j += 1;
     }
     sum
@@ -44,12 +48,12 @@ pub fn dose_total(shares: &[u64], d: usize, need: u64) -> u64
 
 // The next interval, or 47, where the share of dose d is below its room by `least`.
 fn next_way(shares: &[u64], rooms: &[u64], d: usize, from: usize, least: u64) -> usize
-    requires { ⌜ (length (now shares) ≡ 1128) × (length (now rooms) ≡ 1128) × (d < 24) × (from ≤ 47) ⌝ }
-    ensures { λ r. ⌜ (from ≤ r) × (r ≤ 47) × ((i : ℕ) → from ≤ i → i < r → cell (now (rooms .entry)) d i < cell (now (shares .entry)) d i + least) ⌝ }
+    requires { ⌜ (length (now shares) ≡ cells) × (length (now rooms) ≡ cells) × (d < mostDoses) × (from ≤ mostIntervals) ⌝ }
+    ensures { λ r. ⌜ (from ≤ r) × (r ≤ mostIntervals) × ((i : ℕ) → from ≤ i → i < r → cell (now (rooms .entry)) d i < cell (now (shares .entry)) d i + least) ⌝ }
 {
     let mut j = from;
-    while j < 47 {
-        let at = d * 47 + j;
+    while j < MOST_INTERVALS {
+        let at = d * MOST_INTERVALS + j;
         if least <= less(rooms[at], shares[at]) {
             return j;
         }
@@ -64,12 +68,12 @@ pub fn from_dose(
     shares: &mut [u64],
     rooms: &[u64],
     holds: &[u64],
-    seen: [bool; 72],
+    seen: [bool; MOST_MARKS],
     d: usize,
     want: u64,
     least: u64,
 ) -> Push
-    requires { ⌜ Sized (now shares) (now rooms) (now holds) × Bounded (now rooms) (now holds) (now shares) × (d < 24) × (1 ≤ least) ⌝ }
+    requires { ⌜ Sized (now shares) (now rooms) (now holds) × Bounded (now rooms) (now holds) (now shares) × (d < mostDoses) × (1 ≤ least) ⌝ }
     ensures { λ r. ⌜ FromDose (now (rooms .entry)) (now (holds .entry)) least d want seen (now (shares .entry)) (r .amount) (r .seen) (now (shares .exit)) ⌝ }
 {
     if want < least {
@@ -81,15 +85,15 @@ pub fn from_dose(
     let mut marks = seen;
     marks[d] = true;
     let mut j = 0;
-    while j < 47 {
-        let at = d * 47 + j;
+    while j < MOST_INTERVALS {
+        let at = d * MOST_INTERVALS + j;
         let room = less(rooms[at], shares[at]);
         let w = smaller(want, room);
         if w < least {
             j = next_way(shares, rooms, d, j + 1, least);
             continue;
         }
-        if marks[24 + j] {
+        if marks[MOST_DOSES + j] {
             j += 1;
             continue;
         }
@@ -118,22 +122,22 @@ fn from_interval(
     shares: &mut [u64],
     rooms: &[u64],
     holds: &[u64],
-    seen: [bool; 72],
+    seen: [bool; MOST_MARKS],
     j: usize,
     want: u64,
     least: u64,
 ) -> Push
-    requires { ⌜ Sized (now shares) (now rooms) (now holds) × Bounded (now rooms) (now holds) (now shares) × (j < 47) × (1 ≤ least) ⌝ }
+    requires { ⌜ Sized (now shares) (now rooms) (now holds) × Bounded (now rooms) (now holds) (now shares) × (j < mostIntervals) × (1 ≤ least) ⌝ }
     ensures { λ r. ⌜ FromInterval (now (rooms .entry)) (now (holds .entry)) least j want seen (now (shares .entry)) (r .amount) (r .seen) (now (shares .exit)) ⌝ }
 {
     if want < least {
         return Push { amount: 0, seen };
     }
-    if seen[24 + j] {
+    if seen[MOST_DOSES + j] {
         return Push { amount: 0, seen };
     }
     let mut marks = seen;
-    marks[24 + j] = true;
+    marks[MOST_DOSES + j] = true;
     let most = holds[j];
     let spare = less(most, interval_total(shares, j, most));
     if least <= spare {
@@ -143,8 +147,8 @@ fn from_interval(
         };
     }
     let mut d = 0;
-    while d < 24 {
-        let at = d * 47 + j;
+    while d < MOST_DOSES {
+        let at = d * MOST_INTERVALS + j;
         let w = smaller(want, shares[at]);
         if w < least {
             d += 1;

@@ -4,6 +4,7 @@ use mathlib.Core.List.{List}
 use mathlib.Core.Path.{_≡_, refl, _∙_}
 use Prim.Native.Nat.{ℕ, _<_, _≤_}
 use native.Mathlib.Omega.{arith}
+use Rattle.model.specs.Limits.{mostDoses, mostIntervals}
 use Rattle.model.specs.Sets.{Doses}
 use Rattle.model.specs.Orders as model
 use Rattle.model.specs.Classes.{Setting, Row, free}
@@ -29,10 +30,10 @@ module _ (o : model.Order) (fit : Fit o) (n J : ℕ) (active : List Bool) (lens 
   abbrev C : ℕ → Doses
   C = classesIn t
 
-  few-doses : n ≤ 24
+  few-doses : n ≤ mostDoses
   few-doses = omega (arith, a .doses, fit .few)
 
-  few-spans : J ≤ 47
+  few-spans : J ≤ mostIntervals
   few-spans = omega (arith, a .intervals, few-intervals o fit)
 
   -- the fans that the first classes leave

@@ -7,6 +7,7 @@ use Prim.Native.Nat.{ℕ, _+_, _^_, _<_}
 use native.Mathlib.Omega.{arith}
 use lib.Dec.{eqb→eq}
 use lib.ListN.{length, getD}
+use Rattle.model.specs.Limits.{mostDoses, mostIntervals}
 use Rattle.model.specs.Sets.{Doses}
 use Rattle.model.specs.Classes.{Setting, Row, P, free}
 use Rattle.model.specs.Orders.{Order}
@@ -27,21 +28,21 @@ use Rattle.classes.specs.Answer.{ClassesOf, SharesOf, nine, AgainstTop}
 
 -- arrays of 24 places
 pub record Sized (t : Tally) : Type 0 where
-  pub remaining : length (t .remaining) ≡ 24
-  pub numbers : length (t .numbers) ≡ 24
-  pub grams : length (t .grams) ≡ 24
-  pub time : length (t .time) ≡ 24
+  pub remaining : length (t .remaining) ≡ mostDoses
+  pub numbers : length (t .numbers) ≡ mostDoses
+  pub grams : length (t .grams) ≡ mostDoses
+  pub time : length (t .time) ≡ mostDoses
 
 -- tallies that agree in every place are one
 module _ {t t′ : Tally} (l : Sized t) (l′ : Sized t′) where
-  tally-one : t .class ≡ t′ .class → t .classed ≡ t′ .classed → ((k : ℕ) → k < 24 → getD (t .remaining) k false ≡ getD (t′ .remaining) k false)
-      → ((k : ℕ) → k < 24 → getD (t .numbers) k 0 ≡ getD (t′ .numbers) k 0) → ((i : ℕ) → i < 24 → getD (t .grams) i 0 ≡ getD (t′ .grams) i 0)
-      → ((i : ℕ) → i < 24 → getD (t .time) i 0 ≡ getD (t′ .time) i 0) → t ≡ t′
+  tally-one : t .class ≡ t′ .class → t .classed ≡ t′ .classed → ((k : ℕ) → k < mostDoses → getD (t .remaining) k false ≡ getD (t′ .remaining) k false)
+      → ((k : ℕ) → k < mostDoses → getD (t .numbers) k 0 ≡ getD (t′ .numbers) k 0) → ((i : ℕ) → i < mostDoses → getD (t .grams) i 0 ≡ getD (t′ .grams) i 0)
+      → ((i : ℕ) → i < mostDoses → getD (t .time) i 0 ≡ getD (t′ .time) i 0) → t ≡ t′
   tally-one c d r n g p =
-      let r′ = places-one false 24 (l .remaining) (l′ .remaining) r in
-      let n′ = places-one 0 24 (l .numbers) (l′ .numbers) n in
-      let g′ = places-one 0 24 (l .grams) (l′ .grams) g in
-      let p′ = places-one 0 24 (l .time) (l′ .time) p in
+      let r′ = places-one false mostDoses (l .remaining) (l′ .remaining) r in
+      let n′ = places-one 0 mostDoses (l .numbers) (l′ .numbers) n in
+      let g′ = places-one 0 mostDoses (l .grams) (l′ .grams) g in
+      let p′ = places-one 0 mostDoses (l .time) (l′ .time) p in
       λ i. record { remaining = r′ i; class = c i; classed = d i; numbers = n′ i; grams = g′ i; time = p′ i }
 
   -- two answers of `Tally::start`
@@ -66,11 +67,11 @@ module _ {t t′ : Tally} (l : Sized t) (l′ : Sized t′) where
 
 -- 24 rows of 47 places
 pub record Tabled (table : List (List ℕ)) : Type 0 where
-  pub rows : length table ≡ 24
-  pub places : (i : ℕ) → i < 24 → length (getD table i []) ≡ 47
+  pub rows : length table ≡ mostDoses
+  pub places : (i : ℕ) → i < mostDoses → length (getD table i []) ≡ mostIntervals
 
-table-one : {table table′ : List (List ℕ)} → Tabled table → Tabled table′ → ((i j : ℕ) → i < 24 → j < 47 → rowAt table i j ≡ rowAt table′ i j) → table ≡ table′
-table-one l l′ h = places-one [] 24 (l .rows) (l′ .rows) (λ i q. places-one 0 47 (l .places i q) (l′ .places i q) (λ j r. h i j q r))
+table-one : {table table′ : List (List ℕ)} → Tabled table → Tabled table′ → ((i j : ℕ) → i < mostDoses → j < mostIntervals → rowAt table i j ≡ rowAt table′ i j) → table ≡ table′
+table-one l l′ h = places-one [] mostDoses (l .rows) (l′ .rows) (λ i q. places-one 0 mostIntervals (l .places i q) (l′ .places i q) (λ j r. h i j q r))
 
 -- ---- the classes of an order
 
@@ -106,7 +107,7 @@ module _ (o : Order) where
 
     -- and past the doses, the intervals and the classes there is nothing: every cell but the shares is settled
     module _ (table table′ : List (List ℕ)) (shares shares′ : List ℕ) (s : SharesOf o t table shares) (s′ : SharesOf o t′ table′ shares′) where
-      one-row : (i j : ℕ) → j < 47 → rowAt table i j ≡ rowAt table′ i j
+      one-row : (i j : ℕ) → j < mostIntervals → rowAt table i j ≡ rowAt table′ i j
       one-row i j q =
           below-or i (t .class)
           (λ l. below-or j (S .intervals)

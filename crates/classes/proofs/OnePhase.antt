@@ -10,6 +10,7 @@ use borrow.Author.Tests.{eq-eqb, lt-ltb, le-ltb}
 use lib.Arith.{digits-div}
 use lib.Dec.{T, T-not, eqb, eqb→eq}
 use lib.ListN.{length, getD, replicate}
+use Rattle.model.specs.Limits.{cells, mostDoses, mostIntervals}
 use Rattle.model.specs.Sets.{sum, on, Doses, Nonempty}
 use Rattle.model.specs.Classes.{Setting, Row, W, P, NextClass, Classes, classP, reserved, remaining, free, openFans}
 use Rattle.model.specs.Shares.{Valid}
@@ -39,20 +40,20 @@ remaining-not C (suc i) l k h t u = elim (last h) [
   | inr m ↦ remaining-not C i l k m (and-left (remaining C i k) (not (C i k)) t) u
 ]
 
-rows-same : (n i j : ℕ) → rowAt (replicate n (replicate 47 0)) i j ≡ 0
+rows-same : (n i j : ℕ) → rowAt (replicate n (replicate mostIntervals 0)) i j ≡ 0
 rows-same zero i j = refl
-rows-same (suc n) zero j = all-same 47 j 0
+rows-same (suc n) zero j = all-same mostIntervals j 0
 rows-same (suc n) (suc i) j = rows-same n i j
 
 -- at first nothing is reserved or given
-pub blank : Blank (replicate 24 (replicate 47 0)) (replicate 1128 0)
-blank = record { rows = rows-same 24; cells = λ i. all-same 1128 i 0 }
+pub blank : Blank (replicate mostDoses (replicate mostIntervals 0)) (replicate cells 0)
+blank = record { rows = rows-same mostDoses; cells = λ i. all-same cells i 0 }
 
 all-remain : (C : ℕ → Doses) (k : ℕ) → remaining C 0 k ≡ true
 unfolding remaining
 all-remain C k = refl
 
-module _ (n J : ℕ) (active : List Bool) (lens grams : List ℕ) (F : Row) (few : n ≤ 24) (few′ : J ≤ 47) where
+module _ (n J : ℕ) (active : List Bool) (lens grams : List ℕ) (F : Row) (few : n ≤ mostDoses) (few′ : J ≤ mostIntervals) where
   abbrev S : Setting
   S = settingFrom n J active lens grams
 
@@ -84,7 +85,7 @@ module _ (n J : ℕ) (active : List Bool) (lens grams : List ℕ) (F : Row) (few
         let r = weight-pos n (λ k. 1) (remaining C i) (omega (arith, so .counted)) in
         (r .0, r .1, rw (so .rest (r .0) (r .1)) (r .2))
 
-    module _ (free-row : List ℕ) (hf : (j : ℕ) → j < 47 → getD free-row j 0 ≡ F j - sum i (λ l. rowAt table l j)) where
+    module _ (free-row : List ℕ) (hf : (j : ℕ) → j < mostIntervals → getD free-row j 0 ≡ F j - sum i (λ l. rowAt table l j)) where
       rows-here : (j : ℕ) → j < J → rowOf free-row j ≡ free S F C i j
       rows-here = frees-sum S F C i free-row (rowAt table) so-rows (λ j q. hf j (omega arith)) .left
         where
@@ -94,7 +95,7 @@ module _ (n J : ℕ) (active : List Bool) (lens grams : List ℕ) (F : Row) (few
       module _ (members : List Bool) (x reserved-fans : List ℕ) (w p : ℕ) (measured : Measured S (rowOf free-row) (setOf members) w p reserved-fans)
           (chosen : Chosen S (rowOf free-row) (setOf (t .remaining)) (setOf members) x) (t′ : Tally) (table′ : List (List ℕ)) (shares′ : List ℕ)
           (after : After n members w p t t′) (row : Reserved i reserved-fans table table′) (kept : KeptShares members x shares shares′)
-          (quiet : (k j : ℕ) → k < 24 → J ≤ j → j < 47 → activeOf active k j ≡ false) where
+          (quiet : (k j : ℕ) → k < mostDoses → J ≤ j → j < mostIntervals → activeOf active k j ≡ false) where
         abbrev C′ : ℕ → Doses
         C′ = classesIn t′
 
@@ -186,9 +187,9 @@ module _ (n J : ℕ) (active : List Bool) (lens grams : List ℕ) (F : Row) (few
             (λ u. so .later k l q (omega (arith, after .class)) (rw (of-other k l q u) at v))
 
         -- the shares
-        cell-at : (k j : ℕ) → k < 24 → j < 47 → cell shares′ k j ≡ choose (A k) (cell x k j) (cell shares k j)
+        cell-at : (k j : ℕ) → k < mostDoses → j < mostIntervals → cell shares′ k j ≡ choose (A k) (cell x k j) (cell shares k j)
         cell-at k j l q =
-            kept (k * 47 + j) (omega arith) ∙ ap (λ (d : ℕ). choose (getD members d false) (cell x k j) (cell shares k j)) (digits-div k q)
+            kept (k * mostIntervals + j) (omega arith) ∙ ap (λ (d : ℕ). choose (getD members d false) (cell x k j) (cell shares k j)) (digits-div k q)
 
         share-at : (k j : ℕ) → k < n → j < J → cell shares′ k j ≡ choose (A k) (cell x k j) (cell shares k j)
         share-at k j q m = cell-at k j (omega arith) (omega arith)
@@ -279,7 +280,7 @@ module _ (n J : ℕ) (active : List Bool) (lens grams : List ℕ) (F : Row) (few
         }
 
   -- at first no class is found, and every dose remains
-  pub so-far-start : (t : Tally) (table : List (List ℕ)) (shares : List ℕ) → Start n t → length table ≡ 24 → Blank table shares → SoFar S F t table shares
+  pub so-far-start : (t : Tally) (table : List (List ℕ)) (shares : List ℕ) → Start n t → length table ≡ mostDoses → Blank table shares → SoFar S F t table shares
   so-far-start t table shares z h blank = record {
     tall = h;
     found = subst (λ (i : ℕ). Found S F i (classesIn t)) (sym (z .class)) (found-none S F (classesIn t));
@@ -287,20 +288,20 @@ module _ (n J : ℕ) (active : List Bool) (lens grams : List ℕ) (F : Row) (few
     counted = ap (λ (i : ℕ). size n (remaining (classesIn t) i) + t .classed) (z .class)
         ∙ omega (arith, z .classed, weight-alike n (λ k. 1) (remaining (classesIn t) 0) (λ k. true) (λ k q. all-remain (classesIn t) k), size-all n);
     each = omega (arith, z .class);
-    later = λ k i q g v. omega (arith, eqb→eq (getD (t .numbers) k 0) (i + 1) v, ap (λ (l : List ℕ). getD l k 0) (z .numbers), all-same {A = ℕ} 24 k 0);
+    later = λ k i q g v. omega (arith, eqb→eq (getD (t .numbers) k 0) (i + 1) v, ap (λ (l : List ℕ). getD l k 0) (z .numbers), all-same {A = ℕ} mostDoses k 0);
     grams = λ i l. absurd (omega (arith, z .class));
     time = λ i l. absurd (omega (arith, z .class));
     rows = λ i j l. absurd (omega (arith, z .class));
     valid = λ i l. absurd (omega (arith, z .class));
     past = record {
       no-rest = λ k g l. z .remaining k l ∙ le-ltb k n g;
-      no-number = λ k g l. ap (λ (l : List ℕ). getD l k 0) (z .numbers) ∙ all-same {A = ℕ} 24 k 0;
-      no-grams = λ i g. ap (λ (l : List ℕ). getD l i 0) (z .grams) ∙ all-same 24 i 0;
-      no-time = λ i g. ap (λ (l : List ℕ). getD l i 0) (z .time) ∙ all-same 24 i 0;
+      no-number = λ k g l. ap (λ (l : List ℕ). getD l k 0) (z .numbers) ∙ all-same {A = ℕ} mostDoses k 0;
+      no-grams = λ i g. ap (λ (l : List ℕ). getD l i 0) (z .grams) ∙ all-same mostDoses i 0;
+      no-time = λ i g. ap (λ (l : List ℕ). getD l i 0) (z .time) ∙ all-same mostDoses i 0;
       no-row = λ i j g. blank .rows i j;
       no-column = λ i j l g h. blank .rows i j;
-      no-dose = λ k j g l q. blank .cells (k * 47 + j);
-      no-interval = λ k j l g q. blank .cells (k * 47 + j);
+      no-dose = λ k j g l q. blank .cells (k * mostIntervals + j);
+      no-interval = λ k j l g q. blank .cells (k * mostIntervals + j);
     };
   }
 

@@ -5,6 +5,7 @@ use Prim.Native.Nat.{ℕ, _*_, _<_, _≤_}
 use native.Mathlib.Omega.{arith}
 use lib.Dec.{T, ltb→lt, lt→ltb}
 use lib.ListN.{getD}
+use Rattle.model.specs.Limits.{mostClassGrams}
 use Rattle.model.specs.Sets.{Doses}
 use Rattle.model.specs.Classes.{Setting, Row, W, P, free, remaining, setNumber}
 use Rattle.model.specs.Orders.{Order}
@@ -49,7 +50,7 @@ module _ (o : Order) (fit : Fit o) where
       pub first-time : getD (t .time) 0 0 ≡ P S (fansPresent o) (C 0)
       first-time = c .time 0 some ∙ ap (λ (row : Row). P S row (C 0)) no-row
 
-      pub grams-fit : getD (t .grams) 0 0 ≤ 24000000
+      pub grams-fit : getD (t .grams) 0 0 ≤ mostClassGrams
       grams-fit = omega (arith, first-grams, grams-most o fit (t .class) C (C 0))
 
       pub time-fit : getD (t .time) 0 0 ≤ 1000000000

@@ -6,6 +6,7 @@ use mathlib.Core.List.{List, []}
 use Prim.Native.Nat.{ℕ, _+_, _/_, _<_, _≤_}
 use lib.Dec.{T, ltb}
 use lib.ListN.{length, getD, replicate}
+use Rattle.model.specs.Limits.{cells, mostDoses, mostIntervals}
 use Rattle.model.specs.Sets.{on, Doses}
 use Rattle.model.specs.Classes.{Setting, Row, W, classP, remaining, free}
 use Rattle.model.specs.Classes as classes
@@ -27,8 +28,8 @@ rowAt table i j = getD (getD table i []) j 0
 
 -- the table has the row of class i, and the other rows as before
 pub record Reserved (i : ℕ) (reserved : List ℕ) (before after : List (List ℕ)) : Type 0 where
-  pub tall : length after ≡ 24
-  pub own : (j : ℕ) → j < 47 → rowAt after i j ≡ getD reserved j 0
+  pub tall : length after ≡ mostDoses
+  pub own : (j : ℕ) → j < mostIntervals → rowAt after i j ≡ getD reserved j 0
   pub others : (l j : ℕ) → l ≢ i → rowAt after l j ≡ rowAt before l j
 
 -- the classes that the tally has
@@ -43,10 +44,10 @@ sharesIn t shares i k j = on (classesIn t i k) (cell shares k j)
 pub record Start (n : ℕ) (t : Tally) : Type 0 where
   pub class : t .class ≡ 0
   pub classed : t .classed ≡ 0
-  pub remaining : (k : ℕ) → k < 24 → getD (t .remaining) k false ≡ ltb k n
-  pub numbers : t .numbers ≡ replicate 24 0
-  pub grams : t .grams ≡ replicate 24 0
-  pub time : t .time ≡ replicate 24 0
+  pub remaining : (k : ℕ) → k < mostDoses → getD (t .remaining) k false ≡ ltb k n
+  pub numbers : t .numbers ≡ replicate mostDoses 0
+  pub grams : t .grams ≡ replicate mostDoses 0
+  pub time : t .time ≡ replicate mostDoses 0
 
 -- no fan is reserved and no share is given
 pub record Blank (table : List (List ℕ)) (shares : List ℕ) : Type 0 where
@@ -57,8 +58,8 @@ pub record Blank (table : List (List ℕ)) (shares : List ℕ) : Type 0 where
 pub record After (n : ℕ) (members : List Bool) (w p : ℕ) (t r : Tally) : Type 0 where
   pub class : r .class ≡ t .class + 1
   pub classed : r .classed ≡ t .classed + size n (setOf members)
-  pub remaining : (k : ℕ) → k < 24 → getD (r .remaining) k false ≡ (getD (t .remaining) k false && not (getD members k false))
-  pub numbers : (k : ℕ) → k < 24 → getD (r .numbers) k 0 ≡ choose (getD members k false) (t .class + 1) (getD (t .numbers) k 0)
+  pub remaining : (k : ℕ) → k < mostDoses → getD (r .remaining) k false ≡ (getD (t .remaining) k false && not (getD members k false))
+  pub numbers : (k : ℕ) → k < mostDoses → getD (r .numbers) k 0 ≡ choose (getD members k false) (t .class + 1) (getD (t .numbers) k 0)
   pub grams : getD (r .grams) (t .class) 0 ≡ w
   pub time : getD (r .time) (t .class) 0 ≡ p
   pub other-grams : (i : ℕ) → i ≢ t .class → getD (r .grams) i 0 ≡ getD (t .grams) i 0
@@ -66,22 +67,22 @@ pub record After (n : ℕ) (members : List Bool) (w p : ℕ) (t r : Tally) : Typ
 
 -- the shares of the members are those of x, and the others as before
 abbrev pub KeptShares : List Bool → List ℕ → List ℕ → List ℕ → Type 0
-KeptShares members x before after = (i : ℕ) → i < 1128 → getD after i 0 ≡ choose (getD members (i / 47) false) (getD x i 0) (getD before i 0)
+KeptShares members x before after = (i : ℕ) → i < cells → getD after i 0 ≡ choose (getD members (i / mostIntervals) false) (getD x i 0) (getD before i 0)
 
 -- nothing stands past the doses, the intervals and the classes so far
 pub record Past (n J : ℕ) (t : Tally) (table : List (List ℕ)) (shares : List ℕ) : Type 0 where
-  pub no-rest : (k : ℕ) → n ≤ k → k < 24 → getD (t .remaining) k false ≡ false
-  pub no-number : (k : ℕ) → n ≤ k → k < 24 → getD (t .numbers) k 0 ≡ 0
+  pub no-rest : (k : ℕ) → n ≤ k → k < mostDoses → getD (t .remaining) k false ≡ false
+  pub no-number : (k : ℕ) → n ≤ k → k < mostDoses → getD (t .numbers) k 0 ≡ 0
   pub no-grams : (i : ℕ) → t .class ≤ i → getD (t .grams) i 0 ≡ 0
   pub no-time : (i : ℕ) → t .class ≤ i → getD (t .time) i 0 ≡ 0
   pub no-row : (i j : ℕ) → t .class ≤ i → rowAt table i j ≡ 0
-  pub no-column : (i j : ℕ) → i < t .class → J ≤ j → j < 47 → rowAt table i j ≡ 0
-  pub no-dose : (k j : ℕ) → n ≤ k → k < 24 → j < 47 → cell shares k j ≡ 0
-  pub no-interval : (k j : ℕ) → k < 24 → J ≤ j → j < 47 → cell shares k j ≡ 0
+  pub no-column : (i j : ℕ) → i < t .class → J ≤ j → j < mostIntervals → rowAt table i j ≡ 0
+  pub no-dose : (k j : ℕ) → n ≤ k → k < mostDoses → j < mostIntervals → cell shares k j ≡ 0
+  pub no-interval : (k j : ℕ) → k < mostDoses → J ≤ j → j < mostIntervals → cell shares k j ≡ 0
 
 -- the tally so far, with the table of reservations and the shares of the classes that it has
 pub record SoFar (S : Setting) (F : Row) (t : Tally) (table : List (List ℕ)) (shares : List ℕ) : Type 0 where
-  pub tall : length table ≡ 24
+  pub tall : length table ≡ mostDoses
   pub found : Found S F (t .class) (classesIn t)
   pub rest : (k : ℕ) → k < S .doses → getD (t .remaining) k false ≡ remaining (classesIn t) (t .class) k
   pub counted : size (S .doses) (remaining (classesIn t) (t .class)) + t .classed ≡ S .doses

@@ -14,6 +14,10 @@ use sheet::active_in_order;
 use sheet::grams_in;
 use sheet::lens_in;
 use steps::excess;
+use steps::limits::CELLS;
+use steps::limits::MOST_DOSES;
+use steps::limits::MOST_INSTANTS;
+use steps::limits::MOST_INTERVALS;
 use steps::without;
 use table::free_fans;
 use table::reserve;
@@ -23,6 +27,7 @@ ghost use mathlib.Core.Bool.{false, not, _&&_};
 ghost use Prim.Native.Nat.{ℕ, _<_, _≤_};
 ghost use lib.Dec.{ltb};
 ghost use lib.ListN.{length, getD};
+ghost use Rattle.model.specs.Limits.{cells, mostDoses};
 ghost use Rattle.model.proofs.Orders.{Fit};
 ghost use Rattle.order.specs.Held.{asOrder};
 ghost use Rattle.sheet.specs.Sheet.{settingFrom, Sheet};
@@ -42,13 +47,13 @@ fn choose_number(test: bool, a: u32, b: u32) -> u32
 }
 
 // The shares of the class's doses are kept; those of other doses stay.
-fn keep_shares(shares: &mut [u64], x: &[u64], members: [bool; 24])
-    requires { ⌜ (length (now shares) ≡ 1128) × (length (now x) ≡ 1128) ⌝ }
+fn keep_shares(shares: &mut [u64], x: &[u64], members: [bool; MOST_DOSES])
+    requires { ⌜ (length (now shares) ≡ cells) × (length (now x) ≡ cells) ⌝ }
     ensures { λ r. ⌜ KeptShares members (now (x .entry)) (now (shares .entry)) (now (shares .exit)) ⌝ }
 {
     let mut i = 0;
-    while i < 1128 {
-        shares[i] = choose_share(members[i / 47], x[i], shares[i]);
+    while i < CELLS {
+        shares[i] = choose_share(members[i / MOST_INTERVALS], x[i], shares[i]);
         i += 1;
     }
 }
@@ -56,32 +61,32 @@ fn keep_shares(shares: &mut [u64], x: &[u64], members: [bool; 24])
 // The phases so far: "remaining doses, class number and counts", with the class number of each dose (0: none yet) and W and P of
 // each class.
 pub struct Tally {
-    pub remaining: [bool; 24],
+    pub remaining: [bool; MOST_DOSES],
     pub class: usize,
     pub classed: u64,
-    pub numbers: [u32; 24],
-    pub grams: [u64; 24],
-    pub time: [u64; 24],
+    pub numbers: [u32; MOST_DOSES],
+    pub grams: [u64; MOST_DOSES],
+    pub time: [u64; MOST_DOSES],
 }
 
-fn left_of(remaining: [bool; 24], members: [bool; 24]) -> [bool; 24]
-    ensures { λ r. ⌜ ((k : ℕ) → k < 24 → getD r k false ≡ (getD remaining k false && not (getD members k false))) ⌝ }
+fn left_of(remaining: [bool; MOST_DOSES], members: [bool; MOST_DOSES]) -> [bool; MOST_DOSES]
+    ensures { λ r. ⌜ ((k : ℕ) → k < mostDoses → getD r k false ≡ (getD remaining k false && not (getD members k false))) ⌝ }
 {
-    let mut left = [false; 24];
+    let mut left = [false; MOST_DOSES];
     let mut k = 0;
-    while k < 24 {
+    while k < MOST_DOSES {
         left[k] = without(remaining[k], members[k]);
         k += 1;
     }
     left
 }
 
-fn numbered(before: [u32; 24], members: [bool; 24], class: u32) -> [u32; 24]
-    ensures { λ r. ⌜ ((k : ℕ) → k < 24 → getD r k 0 ≡ choose (getD members k false) class (getD before k 0)) ⌝ }
+fn numbered(before: [u32; MOST_DOSES], members: [bool; MOST_DOSES], class: u32) -> [u32; MOST_DOSES]
+    ensures { λ r. ⌜ ((k : ℕ) → k < mostDoses → getD r k 0 ≡ choose (getD members k false) class (getD before k 0)) ⌝ }
 {
-    let mut numbers = [0u32; 24];
+    let mut numbers = [0u32; MOST_DOSES];
     let mut k = 0;
-    while k < 24 {
+    while k < MOST_DOSES {
         numbers[k] = choose_number(members[k], class, before[k]);
         k += 1;
     }
@@ -89,13 +94,13 @@ fn numbered(before: [u32; 24], members: [bool; 24], class: u32) -> [u32; 24]
 }
 
 // At first every dose remains.
-fn every(doses: usize) -> [bool; 24]
-    requires { ⌜ doses ≤ 24 ⌝ }
-    ensures { λ r. ⌜ ((k : ℕ) → k < 24 → getD r k false ≡ ltb k doses) ⌝ }
+fn every(doses: usize) -> [bool; MOST_DOSES]
+    requires { ⌜ doses ≤ mostDoses ⌝ }
+    ensures { λ r. ⌜ ((k : ℕ) → k < mostDoses → getD r k false ≡ ltb k doses) ⌝ }
 {
-    let mut all = [false; 24];
+    let mut all = [false; MOST_DOSES];
     let mut k = 0;
-    while k < 24 {
+    while k < MOST_DOSES {
         all[k] = k < doses;
         k += 1;
     }
@@ -104,22 +109,22 @@ fn every(doses: usize) -> [bool; 24]
 
 impl Tally {
     pub fn start(doses: usize) -> Self
-        requires { ⌜ doses ≤ 24 ⌝ }
+        requires { ⌜ doses ≤ mostDoses ⌝ }
         ensures { λ r. ⌜ Start doses r ⌝ }
     {
         Tally {
             remaining: every(doses),
             class: 0,
             classed: 0,
-            numbers: [0; 24],
-            grams: [0; 24],
-            time: [0; 24],
+            numbers: [0; MOST_DOSES],
+            grams: [0; MOST_DOSES],
+            time: [0; MOST_DOSES],
         }
     }
 
     // The tally after one class more.
     pub fn after(self, class: Class, doses: usize) -> Self
-        requires { ⌜ (self .class < 24) × (self .classed ≤ 24) × (doses ≤ 24) ⌝ }
+        requires { ⌜ (self .class < mostDoses) × (self .classed ≤ mostDoses) × (doses ≤ mostDoses) ⌝ }
         ensures { λ r. ⌜ After doses (class .members) (class .grams) (class .time) self r ⌝ }
     {
         let members = class.members;
@@ -146,23 +151,23 @@ impl Tally {
 // "A phase takes the tally so far and gives back the next one."
 fn phase(
     shares: &mut [u64],
-    table: &mut [[u8; 47]; 24],
-    release: &[u32; 24],
-    deadline: &[u32; 24],
-    instants: &[u32; 48],
-    active: &[bool; 1128],
-    lens: &[u64; 47],
-    grams: &[u32; 24],
+    table: &mut [[u8; MOST_INTERVALS]; MOST_DOSES],
+    release: &[u32; MOST_DOSES],
+    deadline: &[u32; MOST_DOSES],
+    instants: &[u32; MOST_INSTANTS],
+    active: &[bool; CELLS],
+    lens: &[u64; MOST_INTERVALS],
+    grams: &[u32; MOST_DOSES],
     doses: usize,
     intervals: usize,
     fans: u64,
-    sequence: [usize; 24],
+    sequence: [usize; MOST_DOSES],
     tally: Tally,
 ) -> Tally
-    requires { ⌜ (length (now shares) ≡ 1128) × Sheet doses intervals (now release) (now deadline) (now instants) (now active) (now lens) (now grams) × SoFar (settingFrom doses intervals (now active) (now lens) (now grams)) (λ j. fans) tally (now table) (now shares) × (tally .classed < doses) ⌝ }
+    requires { ⌜ (length (now shares) ≡ cells) × Sheet doses intervals (now release) (now deadline) (now instants) (now active) (now lens) (now grams) × SoFar (settingFrom doses intervals (now active) (now lens) (now grams)) (λ j. fans) tally (now table) (now shares) × (tally .classed < doses) ⌝ }
     ensures { λ r. ⌜ SoFar (settingFrom doses intervals (now (active .entry)) (now (lens .entry)) (now (grams .entry))) (λ j. fans) r (now (table .exit)) (now (shares .exit)) × (tally .classed < r .classed) ⌝ }
 {
-    let mut x = [0u64; 1128];
+    let mut x = [0u64; CELLS];
     let class = tally.class;
     let free = free_fans(table, fans, class);
     let remaining = tally.remaining;
@@ -190,19 +195,19 @@ fn phase(
 // Phases until no dose remains.
 fn phases(
     shares: &mut [u64],
-    table: &mut [[u8; 47]; 24],
-    release: &[u32; 24],
-    deadline: &[u32; 24],
-    instants: &[u32; 48],
-    active: &[bool; 1128],
-    lens: &[u64; 47],
-    grams: &[u32; 24],
+    table: &mut [[u8; MOST_INTERVALS]; MOST_DOSES],
+    release: &[u32; MOST_DOSES],
+    deadline: &[u32; MOST_DOSES],
+    instants: &[u32; MOST_INSTANTS],
+    active: &[bool; CELLS],
+    lens: &[u64; MOST_INTERVALS],
+    grams: &[u32; MOST_DOSES],
     doses: usize,
     intervals: usize,
     fans: u64,
-    sequence: [usize; 24],
+    sequence: [usize; MOST_DOSES],
 ) -> Tally
-    requires { ⌜ (length (now shares) ≡ 1128) × (length (now table) ≡ 24) × Sheet doses intervals (now release) (now deadline) (now instants) (now active) (now lens) (now grams) × Blank (now table) (now shares) ⌝ }
+    requires { ⌜ (length (now shares) ≡ cells) × (length (now table) ≡ mostDoses) × Sheet doses intervals (now release) (now deadline) (now instants) (now active) (now lens) (now grams) × Blank (now table) (now shares) ⌝ }
     ensures { λ r. ⌜ SoFar (settingFrom doses intervals (now (active .entry)) (now (lens .entry)) (now (grams .entry))) (λ j. fans) r (now (table .exit)) (now (shares .exit)) × (r .classed ≡ doses) ⌝ }
 {
     let mut tally = Tally::start(doses);
@@ -235,7 +240,11 @@ pub struct TooFast {
 }
 
 // The classes of an order, with the table of reservations and the shares of every class: dose k's in interval j at k * 47 + j.
-pub fn classes_of(o: Order, shares: &mut [u64; 1128], table: &mut [[u8; 47]; 24]) -> Tally
+pub fn classes_of(
+    o: Order,
+    shares: &mut [u64; CELLS],
+    table: &mut [[u8; MOST_INTERVALS]; MOST_DOSES],
+) -> Tally
     requires { ⌜ Fit (asOrder o) ⌝ }
     ensures { λ r. ⌜ ClassesOf (asOrder o) r × SharesOf (asOrder o) r (now (table .exit)) (now (shares .exit)) ⌝ }
 {
@@ -250,8 +259,8 @@ pub fn classes_of(o: Order, shares: &mut [u64; 1128], table: &mut [[u8; 47]; 24]
     let lens = lens_in(instants);
     let grams = grams_in(o);
     let sequence = by_deadline(o);
-    *shares = [0u64; 1128];
-    *table = [[0u8; 47]; 24];
+    *shares = [0u64; CELLS];
+    *table = [[0u8; MOST_INTERVALS]; MOST_DOSES];
     phases(
         shares,
         table,

@@ -7,6 +7,10 @@ use libc::STDOUT_FILENO;
 use order::Order;
 use std::num::wrapping_add_u64;
 use steps::index;
+use steps::limits::CELLS;
+use steps::limits::MOST_DOSES;
+use steps::limits::MOST_INTERVALS;
+use steps::limits::ORDER_ROOM;
 use steps::of_byte;
 use steps::on;
 use steps::wide;
@@ -30,19 +34,19 @@ fn refused(n: u32, place: usize) {
 
 // The place of dose k's class among the classes, one below its number; 24 where there is none.
 fn class_of(t: Tally, k: usize) -> usize {
-    if 24 <= k {
-        return 24;
+    if MOST_DOSES <= k {
+        return MOST_DOSES;
     }
     let number = index(t.numbers[k]);
     if number < 1 {
-        return 24;
+        return MOST_DOSES;
     }
     number - 1
 }
 
 // W of class i.
 fn grams_of(t: Tally, i: usize) -> u64 {
-    if 24 <= i {
+    if MOST_DOSES <= i {
         return 0;
     }
     t.grams[i]
@@ -50,29 +54,29 @@ fn grams_of(t: Tally, i: usize) -> u64 {
 
 // P of class i.
 fn time_of(t: Tally, i: usize) -> u64 {
-    if 24 <= i {
+    if MOST_DOSES <= i {
         return 0;
     }
     t.time[i]
 }
 
 // The share of dose k in interval j.
-fn share_at(shares: &[u64; 1128], k: usize, j: usize) -> u64 {
-    if 24 <= k {
+fn share_at(shares: &[u64; CELLS], k: usize, j: usize) -> u64 {
+    if MOST_DOSES <= k {
         return 0;
     }
-    if 47 <= j {
+    if MOST_INTERVALS <= j {
         return 0;
     }
-    shares[k * 47 + j]
+    shares[k * MOST_INTERVALS + j]
 }
 
 // "its reserved fans" in interval j, of class i.
-fn fans_at(table: &[[u8; 47]; 24], i: usize, j: usize) -> u64 {
-    if 24 <= i {
+fn fans_at(table: &[[u8; MOST_INTERVALS]; MOST_DOSES], i: usize, j: usize) -> u64 {
+    if MOST_DOSES <= i {
         return 0;
     }
-    if 47 <= j {
+    if MOST_INTERVALS <= j {
         return 0;
     }
     wide(of_byte(table[i][j]))
@@ -124,10 +128,10 @@ fn stands(o: Order, s: Instants, grams: u64, share: u64, k: usize, j: usize) -> 
     if share == 0 {
         return true;
     }
-    if 24 <= k {
+    if MOST_DOSES <= k {
         return false;
     }
-    if 47 <= j {
+    if MOST_INTERVALS <= j {
         return false;
     }
     if !interval::active(o, s, k, j) {
@@ -138,14 +142,14 @@ fn stands(o: Order, s: Instants, grams: u64, share: u64, k: usize, j: usize) -> 
 
 // "w × P units": what dose k of class i has in all.
 fn units_of(o: Order, t: Tally, k: usize, i: usize) -> u64 {
-    if 24 <= k {
+    if MOST_DOSES <= k {
         return 0;
     }
     product(wide(o.grams[k]), time_of(t, i))
 }
 
 // Every dose has a class, and its shares stand and come to its units.
-fn dose_served(o: Order, s: Instants, t: Tally, shares: &[u64; 1128], k: usize) -> bool {
+fn dose_served(o: Order, s: Instants, t: Tally, shares: &[u64; CELLS], k: usize) -> bool {
     let i = class_of(t, k);
     if t.class <= i {
         return false;
@@ -153,7 +157,7 @@ fn dose_served(o: Order, s: Instants, t: Tally, shares: &[u64; 1128], k: usize) 
     let grams = grams_of(t, i);
     let mut sum: u64 = 0;
     let mut j = 0;
-    while j < 47 {
+    while j < MOST_INTERVALS {
         let share = share_at(shares, k, j);
         if !stands(o, s, grams, share, k, j) {
             return false;
@@ -164,7 +168,7 @@ fn dose_served(o: Order, s: Instants, t: Tally, shares: &[u64; 1128], k: usize) 
     sum == units_of(o, t, k, i)
 }
 
-fn doses_served(o: Order, s: Instants, t: Tally, shares: &[u64; 1128]) -> bool {
+fn doses_served(o: Order, s: Instants, t: Tally, shares: &[u64; CELLS]) -> bool {
     let n = o.count;
     let mut k = 0;
     while k < n {
@@ -177,10 +181,10 @@ fn doses_served(o: Order, s: Instants, t: Tally, shares: &[u64; 1128]) -> bool {
 }
 
 // The shares of class i in interval j.
-fn class_share(t: Tally, shares: &[u64; 1128], i: usize, j: usize) -> u64 {
+fn class_share(t: Tally, shares: &[u64; CELLS], i: usize, j: usize) -> u64 {
     let mut sum: u64 = 0;
     let mut k = 0;
-    while k < 24 {
+    while k < MOST_DOSES {
         sum = wrapping_add_u64(sum, on(class_of(t, k) == i, share_at(shares, k, j)));
         k += 1;
     }
@@ -191,8 +195,8 @@ fn class_share(t: Tally, shares: &[u64; 1128], i: usize, j: usize) -> u64 {
 fn full(
     s: Instants,
     t: Tally,
-    shares: &[u64; 1128],
-    table: &[[u8; 47]; 24],
+    shares: &[u64; CELLS],
+    table: &[[u8; MOST_INTERVALS]; MOST_DOSES],
     i: usize,
     j: usize,
 ) -> bool {
@@ -204,10 +208,22 @@ fn full(
 }
 
 // Class i and interval j are taken at i * 47 + j.
-fn classes_full(s: Instants, t: Tally, shares: &[u64; 1128], table: &[[u8; 47]; 24]) -> bool {
+fn classes_full(
+    s: Instants,
+    t: Tally,
+    shares: &[u64; CELLS],
+    table: &[[u8; MOST_INTERVALS]; MOST_DOSES],
+) -> bool {
     let mut at = 0;
-    while at < 1128 {
-        if !full(s, t, shares, table, at / 47, at % 47) {
+    while at < CELLS {
+        if !full(
+            s,
+            t,
+            shares,
+            table,
+            at / MOST_INTERVALS,
+            at % MOST_INTERVALS,
+        ) {
             return false;
         }
         at += 1;
@@ -215,8 +231,13 @@ fn classes_full(s: Instants, t: Tally, shares: &[u64; 1128], table: &[[u8; 47]; 
     true
 }
 
-fn valid(o: Order, t: Tally, shares: &[u64; 1128], table: &[[u8; 47]; 24]) -> bool {
-    if 24 < o.count {
+fn valid(
+    o: Order,
+    t: Tally,
+    shares: &[u64; CELLS],
+    table: &[[u8; MOST_INTERVALS]; MOST_DOSES],
+) -> bool {
+    if MOST_DOSES < o.count {
         return false;
     }
     let s = interval::instants_of(o);
@@ -238,8 +259,8 @@ fn show_valid(test: bool) {
 fn show_order(o: Order)
     requires { ⌜ Fit (asOrder o) ⌝ }
 {
-    let mut shares = [0u64; 1128];
-    let mut table = [[0u8; 47]; 24];
+    let mut shares = [0u64; CELLS];
+    let mut table = [[0u8; MOST_INTERVALS]; MOST_DOSES];
     let t = classes::classes_of(o, &mut shares, &mut table);
     let top = classes::too_fast(o, t);
     if top.above {
@@ -273,7 +294,7 @@ fn show_next() -> bool {
         return false;
     }
     let len = records::number::read32(&frame, 0) as usize;
-    if 1600 < len {
+    if ORDER_ROOM < len {
         return false;
     }
     show(&frame[32..32 + len]);

@@ -6,6 +6,7 @@ use mathlib.Core.List.{List}
 use Prim.Native.Nat.{ℕ, zero, suc, _+_, _-_, _*_, _/_, _%_, _<_, _≤_}
 use lib.Dec.{eqb, ltb}
 use lib.ListN.{length, getD}
+use Rattle.model.specs.Limits.{mostDoses}
 use Rattle.model.specs.Sets.{sum, weight}
 use Rattle.model.specs.Records.{pick, recordSize, classKind, slotKind, blankAt, classParts, slotParts, recordAt}
 use Rattle.model.specs.Orders.{Order, doseAt}
@@ -86,7 +87,7 @@ numberOf plan p k (suc n) = pick (eqb (slotIn plan (p + n) .dose) k) (slotIn pla
 
 -- every dose below 24 has its number, by the slots from record p up to record e
 pub record Numbers (plan : List ℕ) (p e : ℕ) (numbers : List ℕ) : Type 0 where
-  pub each : (k : ℕ) → k < 24 → getD numbers k 0 ≡ numberOf plan p k (e - p)
+  pub each : (k : ℕ) → k < mostDoses → getD numbers k 0 ≡ numberOf plan p k (e - p)
 
 -- ---- clauses
 

@@ -11,6 +11,7 @@ use native.Mathlib.Nat.{eq-zero-or-pos}
 use native.Mathlib.Omega.{arith}
 use lib.Dec.{T, T-not, eqb, leb, leb→le}
 use lib.ListN.{length}
+use Rattle.model.specs.Limits.{planRoom, week}
 use Rattle.model.specs.Sets.{Doses}
 use Rattle.model.specs.Lists.{All, none, also}
 use Rattle.model.specs.Records.{Reading, read, refused, pick}
@@ -21,7 +22,7 @@ use Rattle.model.specs.Plans.{Class, Slot, recordsBytes, planOf, slotsRead, pla
 use Rattle.model.specs.Layout.{slotsOf, classAt, classesOf}
 use Rattle.model.specs.Line.{pointAt}
 use Rattle.model.specs.Stands.{Stands}
-use Rattle.model.specs.Answers.{Answer, refusal, done, aboveTop, tooFast, FirstClass, Refuses, unread, above, Accepts, Planned, ValidShares, planBytes, planRoom, overwritten, Plans, Judges, Draws, Moves, week}
+use Rattle.model.specs.Answers.{Answer, refusal, done, aboveTop, tooFast, FirstClass, Refuses, unread, above, Accepts, Planned, ValidShares, planBytes, overwritten, Plans, Judges, Draws, Moves}
 use Rattle.model.specs.Cases.{Case, Drawing, DrawingRight, SameDoses, SetsRight, Right, caseSets, casePlan, casePlanned, cases}
 use Rattle.model.specs.CaseTests.{allBelow, allIn, caseTest, readingTest, nothingTest, classTest, validTest, forcedTest, sharesTest, pointTest, samePoint, fastTest, doneTest, slowTest, recordsTest, planTest, caseShares, emptyList, sameAnswer, sameList, sameClass, sameSlot, cases-pass}
 use Rattle.model.proofs.Sets.{and-left, and-right, or-elim, Alike, alike-sub, alike-back, weight-alike}

@@ -15,6 +15,7 @@ use Prim.Native.Nat.{ℕ, _+_, _*_, _≤_, _<_}
 use native.Mathlib.Omega.{arith}
 use lib.Dec.{T, ltb→lt}
 use lib.ListN.{length, getD}
+use Rattle.model.specs.Limits.{planRoom}
 use Rattle.model.specs.Sets.{Doses}
 use Rattle.model.specs.Lists.{total}
 use Rattle.model.specs.Records.{read}
@@ -25,7 +26,7 @@ use Rattle.model.specs.Plans.{Slot, planRecords, slotsRead}
 use Rattle.model.specs.Stands.{Between, Stands, unitsOf}
 use Rattle.model.specs.Line.{Covers, OneOf, timeOf}
 use Rattle.model.specs.FreePlans.{FreePlan}
-use Rattle.model.specs.Answers.{Accepts, Answer, FirstClass, Planned, Plans, Refuses, above, done, overwritten, planRoom, tooFast}
+use Rattle.model.specs.Answers.{Accepts, Answer, FirstClass, Planned, Plans, Refuses, above, done, overwritten, tooFast}
 use Rattle.model.proofs.Sequence.{classes-unique, count-unique}
 use Rattle.model.proofs.Orders.{read-fits}
 use Rattle.model.proofs.ValidShares.{class-open}

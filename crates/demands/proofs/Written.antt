@@ -6,6 +6,7 @@ use mathlib.Core.List.{List}
 use Prim.Native.Nat.{ℕ, _+_, _*_, _≤_, _<_}
 use native.Mathlib.Nat.{le-of-mul-le-mul-right, mul-le-mul-right}
 use native.Mathlib.Omega.{arith}
+use Rattle.model.specs.Limits.{mostClassGrams, week}
 use Rattle.model.specs.Sets.{Doses}
 use Rattle.model.specs.Lists.{also, none}
 use Rattle.model.specs.Orders.{Order}
@@ -31,10 +32,10 @@ module _ (o : Order) (fit : Fit o) (p : ℕ) (C : ℕ → Doses) where
   -- a slot that is named fits its record
   pub narrow-slot : p ≤ S .doses → (s : Slot) → Named o p C s → NarrowSlot s
   narrow-slot few s h =
-      let light : s .grams ≤ 24000000 = omega (arith, h .grams, grams-most o fit p C (C (h .class))) in
-      let high : ends s ≤ 604800 * s .grams = omega (arith, h .in-interval .high, mul-le-mul-right (s .grams) (instants-week o fit (h .interval + 1))) in
-      let end : s .endTick ≤ 604800 = le-of-mul-le-mul-right {k = s .grams} (omega arith) (omega (arith, h .start-part)) in
-      let start : s .startTick ≤ 604800 = le-of-mul-le-mul-right {k = s .grams} (omega (arith, h .long)) (omega (arith, h .start-part)) in
+      let light : s .grams ≤ mostClassGrams = omega (arith, h .grams, grams-most o fit p C (C (h .class))) in
+      let high : ends s ≤ week * s .grams = omega (arith, h .in-interval .high, mul-le-mul-right (s .grams) (instants-week o fit (h .interval + 1))) in
+      let end : s .endTick ≤ week = le-of-mul-le-mul-right {k = s .grams} (omega arith) (omega (arith, h .start-part)) in
+      let start : s .startTick ≤ week = le-of-mul-le-mul-right {k = s .grams} (omega (arith, h .long)) (omega (arith, h .start-part)) in
       record {
         fan = omega (arith, h .fan-to, fit .fans-most);
         dose = omega (arith, h .dose, fit .few);

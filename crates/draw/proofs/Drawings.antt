@@ -5,12 +5,13 @@ use mathlib.Core.List.{List}
 use Prim.Native.Nat.{ℕ, _+_, _<_, _≤_, min}
 use native.Mathlib.Omega.{arith}
 use lib.ListN.{length}
+use Rattle.model.specs.Limits.{week}
 use Rattle.model.specs.Records.{read}
 use Rattle.model.specs.Orders.{readOrder}
 use Rattle.model.specs.Orders as orders
 use Rattle.model.specs.Plans.{planRecords, slotsRead}
 use Rattle.model.specs.Line.{Point, pointAt}
-use Rattle.model.specs.Answers.{Answer, Drawn, Draws, Judges, Moves, at-end, done, draws, moves, no-dose, noPoint, refusal, refuses, too-late, week}
+use Rattle.model.specs.Answers.{Answer, Drawn, Draws, Judges, Moves, at-end, done, draws, moves, no-dose, noPoint, refusal, refuses, too-late}
 use Rattle.model.proofs.Orders.{read-fits}
 use Rattle.order.specs.Held.{ReadFrom, asOrder, heldOrder, heldReading}
 use Rattle.order.specs.declared.Reading.{Reading}
@@ -59,7 +60,7 @@ draws-refused order plan d t a j n x e = rw e (refuses a j n)
 -- ---- the pen
 
 -- "its answer is the point at the new tick": a drawing at the next tick, 604,801 for a pen that is already at or past 604,800
-pub moves-by : (order plan : List ℕ) (d t next : ℕ) (x : Drawn) → next ≡ min t 604800 + 1 → Draws order plan d next x
+pub moves-by : (order plan : List ℕ) (d t next : ℕ) (x : Drawn) → next ≡ min t week + 1 → Draws order plan d next x
     → (x .answer .number ≢ 0 → Moves order plan (record { dose = d; tick = t }) x (record { dose = d; tick = t }))
     × (x .answer .number ≡ 0 → Moves order plan (record { dose = d; tick = t }) x (record { dose = d; tick = next }))
 moves-by order plan d t next x q (refuses a j n) = (λ m. refuses a j n, λ e. absurd (n e))

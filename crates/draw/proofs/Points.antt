@@ -8,6 +8,7 @@ use borrow.Author.Tests.{le-leb, lt-leb, le-ltb, lt-ltb}
 use lib.ListN.{getD}
 use mir.Syntax.{w32}
 use mir.Val.{Fits}
+use Rattle.model.specs.Limits.{mostGrams}
 use Rattle.model.specs.Records.{read}
 use Rattle.model.specs.Orders.{doseAt, readOrder}
 use Rattle.model.specs.Orders as orders
@@ -64,7 +65,7 @@ module _ (b : List ℕ) (d : ℕ) (h : Drawable b d) where
   has-time = rw (slots-known b d h) (h .some-time)
 
   -- no amount is more than a dose may have
-  amount-most : (t : ℕ) → unitsBefore slots d t / timeOf slots d ≤ 1000000
+  amount-most : (t : ℕ) → unitsBefore slots d t / timeOf slots d ≤ mostGrams
   amount-most t =
       rw (slots-known b d h)
       (le-of-mul-le-mul-right {k = timeOf (slotsIn (h .records)) d}
@@ -88,7 +89,7 @@ stands-drawable order o e plan st d dn = record {
     line .up t (doseAt o d .deadline),
     line .late (t + doseAt o d .deadline) (omega arith),
     line .all-units,
-    mul-le-mul-right {m = doseAt o d .grams} {n = 1000000} (timeOf (slotsRead (planRecords plan)) d) (fit .light d dn),
+    mul-le-mul-right {m = doseAt o d .grams} {n = mostGrams} (timeOf (slotsRead (planRecords plan)) d) (fit .light d dn),
   ));
 }
   where

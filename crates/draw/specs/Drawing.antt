@@ -4,6 +4,7 @@ use mathlib.Core.Bool.{Bool, _&&_}
 use mathlib.Core.List.{List}
 use Prim.Native.Nat.{ℕ, _*_, _-_, _≤_, _<_, min}
 use lib.Dec.{eqb, leb, ltb}
+use Rattle.model.specs.Limits.{mostFanTime, mostGrams}
 use Rattle.model.specs.Records.{read, slotKind}
 use Rattle.model.specs.Plans.{PlanRecord, Slot, slotsIn, planRecords}
 use Rattle.model.specs.Stands.{starts, ends, Stands}
@@ -65,8 +66,8 @@ pub record Drawable (plan : List ℕ) (d : ℕ) : Type 0 where
   pub records : List PlanRecord
   pub are : planRecords plan ≡ read records
   pub some-time : 0 < timeOf (slotsIn records) d
-  pub time-most : timeOf (slotsIn records) d ≤ 4838400
-  pub units-most : (t : ℕ) → unitsBefore (slotsIn records) d t ≤ 1000000 * timeOf (slotsIn records) d
+  pub time-most : timeOf (slotsIn records) d ≤ mostFanTime
+  pub units-most : (t : ℕ) → unitsBefore (slotsIn records) d t ≤ mostGrams * timeOf (slotsIn records) d
 
 -- the order is accepted and the plan stands for it: what is left to check is 11 and 12
 pub record Sound (order plan : List ℕ) : Type 0 where

@@ -10,6 +10,7 @@ use records::slot_at;
 use records::starts;
 use steps::both;
 use steps::less;
+use steps::limits::WEEK;
 use steps::product;
 use steps::smaller;
 use steps::wide;
@@ -17,6 +18,7 @@ ghost use mathlib.Core.Path.{_≡_};
 ghost use mathlib.Core.Bool.{_&&_};
 ghost use Prim.Native.Nat.{_+_, _-_, _/_, _<_, _≤_, min};
 ghost use lib.ListN.{length};
+ghost use Rattle.model.specs.Limits.{mostDoses, week};
 ghost use Rattle.model.specs.Sets.{on};
 ghost use Rattle.model.specs.Records.{recordSize};
 ghost use Rattle.model.specs.Plans.{slotsRead, planRecords};
@@ -165,7 +167,7 @@ fn fed_at(plan: &[u8], dose: usize, tick: u32) -> State
 
 // "Finished if t is at or past the deadline, else Shut before the release, else Dosing .., else Idle"
 fn state_of(o: Order, plan: &[u8], dose: usize, tick: u32) -> State
-    requires { ⌜ (o .count ≤ 24) × (dose < o .count) × Drawable (now plan) dose ⌝ }
+    requires { ⌜ (o .count ≤ mostDoses) × (dose < o .count) × Drawable (now plan) dose ⌝ }
     ensures { λ s. ⌜ asState s ≡ stateAt (asOrder o) (slotsRead (planRecords (now (plan .entry)))) dose tick ⌝ }
 {
     let deadline = o.deadline[dose];
@@ -181,7 +183,7 @@ fn state_of(o: Order, plan: &[u8], dose: usize, tick: u32) -> State
 
 // "Exact amount at tick t: units of the dose's slots before t, divided by P. Drawn amount: its whole part, one division at the end."
 fn point_of(o: Order, plan: &[u8], dose: usize, tick: u32) -> Point
-    requires { ⌜ (o .count ≤ 24) × (dose < o .count) × Drawable (now plan) dose ⌝ }
+    requires { ⌜ (o .count ≤ mostDoses) × (dose < o .count) × Drawable (now plan) dose ⌝ }
     ensures { λ p. ⌜ asPoint p ≡ pointAt (asOrder o) (slotsRead (planRecords (now (plan .entry)))) dose tick ⌝ }
 {
     let units = units_before(plan, dose, tick);
@@ -219,7 +221,7 @@ fn in_plan(order: &[u8], plan: &[u8], dose: usize, tick: u32) -> Drawn
     if n <= dose {
         return no_point(11, 0, 0, 0, 0);
     }
-    if 604800 < tick {
+    if WEEK < tick {
         return no_point(12, 0, 0, 0, 0);
     }
     let p = point_of(o, plan, dose, tick);
@@ -259,9 +261,9 @@ pub fn point_at(order: &[u8], plan: &[u8], dose: usize, tick: u32) -> Drawn
 
 // The tick behind a pen's; from 604,800 on it is one that no drawing accepts.
 fn next_tick(tick: u32) -> u32
-    ensures { λ t. ⌜ t ≡ min tick 604800 + 1 ⌝ }
+    ensures { λ t. ⌜ t ≡ min tick week + 1 ⌝ }
 {
-    if tick < 604800 {
+    if tick < WEEK {
         return tick + 1;
     }
     604801

@@ -5,8 +5,11 @@ mod top; // top.rt: refusal 9
 use clauses::rows;
 use order::Order;
 use records::RECORD_SIZE;
+use steps::limits::MOST_DOSES;
+use steps::limits::MOST_INSTANTS;
 ghost use Prim.Native.Nat.{_/_, _≤_};
 ghost use lib.ListN.{length};
+ghost use Rattle.model.specs.Limits.{mostDoses, mostIntervals};
 ghost use Rattle.model.specs.Records.{recordSize};
 ghost use Rattle.model.proofs.Orders.{Fit};
 ghost use Rattle.order.specs.Held.{asOrder};
@@ -17,7 +20,7 @@ ghost use Rattle.clauses.specs.Tests.{Tells, RowsPass, Passes, Finds, sheet};
 struct Found {
     stands: bool,
     classes: usize,
-    numbers: [u32; 24],
+    numbers: [u32; MOST_DOSES],
 }
 
 // What judging answers: the plan stands; the order's refusal 2 to 8 with its place; 9 with the first class as a set, its W and P; 10.
@@ -29,8 +32,8 @@ pub enum Judged {
 }
 
 // What the records say by themselves and of the sets that the slots name.
-fn rows_pass(plan: &[u8], p: usize, numbers: &[u32; 24], doses: usize) -> bool
-    requires { ⌜ (p ≤ length (now plan) / recordSize) × (doses ≤ 24) ⌝ }
+fn rows_pass(plan: &[u8], p: usize, numbers: &[u32; MOST_DOSES], doses: usize) -> bool
+    requires { ⌜ (p ≤ length (now plan) / recordSize) × (doses ≤ mostDoses) ⌝ }
     ensures { λ t. ⌜ Tells t (RowsPass doses (now (plan .entry)) p (now (numbers .entry))) ⌝ }
 {
     if plan.len() % RECORD_SIZE != 0 {
@@ -55,16 +58,16 @@ fn rows_pass(plan: &[u8], p: usize, numbers: &[u32; 24], doses: usize) -> bool
 fn all_pass(
     plan: &[u8],
     p: usize,
-    numbers: &[u32; 24],
-    release: &[u32; 24],
-    deadline: &[u32; 24],
-    grams: &[u32; 24],
-    instants: &[u32; 48],
+    numbers: &[u32; MOST_DOSES],
+    release: &[u32; MOST_DOSES],
+    deadline: &[u32; MOST_DOSES],
+    grams: &[u32; MOST_DOSES],
+    instants: &[u32; MOST_INSTANTS],
     doses: usize,
     intervals: usize,
     fans: u32,
 ) -> bool
-    requires { ⌜ (p ≤ length (now plan) / recordSize) × (doses ≤ 24) × (intervals ≤ 47) ⌝ }
+    requires { ⌜ (p ≤ length (now plan) / recordSize) × (doses ≤ mostDoses) × (intervals ≤ mostIntervals) ⌝ }
     ensures { λ t. ⌜ Tells t (Passes (sheet doses intervals fans (now (release .entry)) (now (deadline .entry)) (now (grams .entry)) (now (instants .entry))) (now (plan .entry)) p (now (numbers .entry))) ⌝ }
 {
     if !rows_pass(plan, p, numbers, doses) {
@@ -110,15 +113,15 @@ fn all_pass(
 // The plan as its own certificate, for an order that is held in arrays.
 fn find(
     plan: &[u8],
-    release: &[u32; 24],
-    deadline: &[u32; 24],
-    grams: &[u32; 24],
-    instants: &[u32; 48],
+    release: &[u32; MOST_DOSES],
+    deadline: &[u32; MOST_DOSES],
+    grams: &[u32; MOST_DOSES],
+    instants: &[u32; MOST_INSTANTS],
     doses: usize,
     intervals: usize,
     fans: u32,
 ) -> Found
-    requires { ⌜ (doses ≤ 24) × (intervals ≤ 47) ⌝ }
+    requires { ⌜ (doses ≤ mostDoses) × (intervals ≤ mostIntervals) ⌝ }
     ensures { λ r. ⌜ Finds (sheet doses intervals fans (now (release .entry)) (now (deadline .entry)) (now (grams .entry)) (now (instants .entry))) (now (plan .entry)) (r .classes) (r .numbers) (r .stands) ⌝ }
 {
     let p = rows::lead(plan);

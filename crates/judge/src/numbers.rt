@@ -2,20 +2,22 @@
 use records::RECORD_SIZE;
 use records::slot_at;
 use steps::index;
+use steps::limits::MOST_DOSES;
 ghost use mathlib.Core.Path.{_≡_};
 ghost use mathlib.Core.Logic.{_≢_};
 ghost use Prim.Native.Nat.{ℕ, _/_, _<_, _≤_};
 ghost use lib.ListN.{length, getD};
+ghost use Rattle.model.specs.Limits.{mostDoses};
 ghost use Rattle.model.specs.Records.{recordSize};
 ghost use Rattle.clauses.specs.Tests.{Tells, Numbers};
 
 // The number of one dose is noted, where there can be such a dose.
-fn noted(before: [u32; 24], dose: u32, class: u32) -> [u32; 24]
-    ensures own { λ r. ⌜ (dose < 24 → getD r dose 0 ≡ class) ⌝ }
+fn noted(before: [u32; MOST_DOSES], dose: u32, class: u32) -> [u32; MOST_DOSES]
+    ensures own { λ r. ⌜ (dose < mostDoses → getD r dose 0 ≡ class) ⌝ }
     ensures others { λ r. ⌜ ((k : ℕ) → k ≢ dose → getD r k 0 ≡ getD before k 0) ⌝ }
 {
     let k = dose as usize;
-    if 24 <= k {
+    if MOST_DOSES <= k {
         return before;
     }
     let mut numbers = before;
@@ -24,12 +26,12 @@ fn noted(before: [u32; 24], dose: u32, class: u32) -> [u32; 24]
 }
 
 // "each slot names a dose of its class": the slots' own numbers, the last one of each dose.
-pub fn numbers_of(plan: &[u8], p: usize) -> [u32; 24]
+pub fn numbers_of(plan: &[u8], p: usize) -> [u32; MOST_DOSES]
     requires { ⌜ p ≤ length (now plan) / recordSize ⌝ }
     ensures { λ r. ⌜ Numbers (now (plan .entry)) p (length (now (plan .entry)) / recordSize) r ⌝ }
 {
     let m = plan.len() / RECORD_SIZE;
-    let mut numbers = [0u32; 24];
+    let mut numbers = [0u32; MOST_DOSES];
     let mut i = p;
     while i < m {
         let s = slot_at(plan, i);
@@ -41,8 +43,8 @@ pub fn numbers_of(plan: &[u8], p: usize) -> [u32; 24]
 }
 
 // Every dose has one of the p classes.
-pub fn numbered(numbers: &[u32; 24], doses: usize, p: usize) -> bool
-    requires { ⌜ doses ≤ 24 ⌝ }
+pub fn numbered(numbers: &[u32; MOST_DOSES], doses: usize, p: usize) -> bool
+    requires { ⌜ doses ≤ mostDoses ⌝ }
     ensures { λ t. ⌜ Tells t ((k : ℕ) → k < doses → (1 ≤ getD (now (numbers .entry)) k 0) × (getD (now (numbers .entry)) k 0 ≤ p)) ⌝ }
 {
     let mut k = 0;

@@ -4,13 +4,16 @@ use measure::first_set;
 use order::Order;
 use records::class_at;
 use steps::excess;
+use steps::limits::CELLS;
+use steps::limits::MOST_DOSES;
+use steps::limits::MOST_INTERVALS;
 use steps::wide;
 ghost use Rattle.model.proofs.Orders.{Fit};
 ghost use Rattle.order.specs.Held.{asOrder};
 ghost use Rattle.judge.specs.Verdict.{Against, Leader};
 
 // A plan that stands names the order's first class in its first record.
-pub fn against_top(o: Order, plan: &[u8], classes: usize, numbers: [u32; 24]) -> Judged
+pub fn against_top(o: Order, plan: &[u8], classes: usize, numbers: [u32; MOST_DOSES]) -> Judged
     requires { ⌜ Fit (asOrder o) × Leader (asOrder o) (now plan) classes numbers ⌝ }
     ensures { λ r. ⌜ Against (asOrder o) Judged.Stands r ⌝ }
 {
@@ -33,8 +36,8 @@ pub fn fallen(o: Order) -> Judged
     requires { ⌜ Fit (asOrder o) ⌝ }
     ensures { λ r. ⌜ Against (asOrder o) Judged.Falls r ⌝ }
 {
-    let mut shares = [0u64; 1128];
-    let mut table = [[0u8; 47]; 24];
+    let mut shares = [0u64; CELLS];
+    let mut table = [[0u8; MOST_INTERVALS]; MOST_DOSES];
     let t = classes::classes_of(o, &mut shares, &mut table);
     let top = classes::too_fast(o, t);
     if top.above {

@@ -8,6 +8,7 @@ use native.Mathlib.Omega.{arith}
 use borrow.Author.Tests.{eq-eqb, ne-eqb}
 use lib.Dec.{eqb}
 use lib.ListN.{length, getD}
+use Rattle.model.specs.Limits.{mostFans, mostIntervals}
 use Rattle.model.specs.Sets.{sum, on}
 use Rattle.model.specs.Lists.{gather}
 use Rattle.model.specs.Plans.{Slot, slotRecord}
@@ -26,7 +27,7 @@ share-mine c n v e = rw (eq-eqb c n e)
 pub share-other : (c n v : ℕ) → (c ≡ n → ⊥) → 0 ≡ on (eqb c n) v
 share-other c n v e = rw (ne-eqb c n e)
 
-pub share-is : (t : Tables) (x : List ℕ) (i k j : ℕ) {s : ℕ} → s ≡ on (setsOf (t .«class_of») i k) (getD x (k * 47 + j) 0) → s ≡ shareAt t x i k j
+pub share-is : (t : Tables) (x : List ℕ) (i k j : ℕ) {s : ℕ} → s ≡ on (setsOf (t .«class_of») i k) (getD x (k * mostIntervals + j) 0) → s ≡ shareAt t x i k j
 unfolding shareAt
 share-is t x i k j e = e
 
@@ -82,7 +83,7 @@ module _ {t : Tables} {x : List ℕ} {m : List (List ℕ)} (h : Filled t x m) wh
 
   module _ {j : ℕ} {b₀ b : List ℕ} {r at below i : ℕ} (g : Rising t x m j b₀ r b at below i) (p : j < t .intervals) (q : i < t .classes) where
     -- the fans up to those of class i
-    pub below-at : below + fansAt m i j ≤ 8
+    pub below-at : below + fansAt m i j ≤ mostFans
     below-at = omega (arith, g .below-is, sum-before (t .classes) (λ i. fansAt m i j) i q, h .room j p)
 
     -- room for a class

@@ -6,6 +6,7 @@ use native.Mathlib.Nat.{div-le-of-le-mul, mod-lt, mul-le-mul-right, mul-pos}
 use native.Mathlib.Numerals.{add-one}
 use native.Mathlib.Omega.{arith}
 use lib.ListN.{length, length-map}
+use Rattle.model.specs.Limits.{mostClassGrams, mostFans, week}
 use Rattle.records.specs.Written.{written}
 use Rattle.model.specs.Sets.{sum}
 use Rattle.model.specs.Lists.{gather}
@@ -17,7 +18,7 @@ use Rattle.layout.specs.Laying.{Ready, Room, Rooms, Wrote}
 use Rattle.layout.proofs.Runs.{gather-fits, gather-more, gather-none, wrote-more, wrote-none, wrote-one}
 
 -- a unit of a stretch is in the week
-pub tick : (l : Lane) → Ready l → (s : ℕ) → s ≤ l .len * l .grams → l .start + s / l .grams ≤ 604800
+pub tick : (l : Lane) → Ready l → (s : ℕ) → s ≤ l .len * l .grams → l .start + s / l .grams ≤ week
 tick l r s h = omega (arith, r .week, div-le-of-le-mul (l .grams) {m = s} {n = l .len} (omega arith))
 
 -- ---- a share
@@ -28,9 +29,9 @@ module _ {l : Lane} {k a x r size : ℕ} (h : Room l k a x r size) where
 
   -- what its numbers are at most
   pub record Small : Type 0 where
-    pub units : l .len * l .grams ≤ 604800 * l .grams
+    pub units : l .len * l .grams ≤ week * l .grams
     pub some : 0 < l .len * l .grams
-    pub fan : a / (l .len * l .grams) ≤ 8
+    pub fan : a / (l .len * l .grams) ≤ mostFans
     pub low : a % (l .len * l .grams) < l .len * l .grams
     pub share : x ≤ l .len * l .grams
 
@@ -109,14 +110,14 @@ module _ (l : Lane) (x : ℕ → ℕ) where
     })
 
     -- no sum of shares is too large for the code
-    pub sum-at : {s : ℕ} → k < n → s ≡ x k → a + s ≤ 8 * (604800 * 24000000)
+    pub sum-at : {s : ℕ} → k < n → s ≡ x k → a + s ≤ mostFans * (week * mostClassGrams)
     sum-at q e =
         omega (
           arith,
           g .sum-is,
           h .end,
           sum-before n x k q,
-          mul-le-mul-right {m = l .len} {n = 604800} (l .grams) (omega (arith, h .ready .week)),
+          mul-le-mul-right {m = l .len} {n = week} (l .grams) (omega (arith, h .ready .week)),
           h .ready .light,
         )
 

@@ -2,6 +2,7 @@
 use mathlib.Core.List.{List, []}
 use Prim.Native.Nat.{ℕ, _+_, _*_, _-_}
 use lib.ListN.{getD}
+use Rattle.model.specs.Limits.{mostIntervals}
 use Rattle.model.specs.Sets.{on}
 use Rattle.model.specs.Layout as model
 use Rattle.sheet.specs.Sheet.{setsOf}
@@ -21,7 +22,7 @@ fansAt reserved i j = getD (getD reserved i []) j 0
 
 -- the share of dose k in class i and interval j: none where the dose is of another class
 unfoldable pub shareAt : Tables → List ℕ → ℕ → ℕ → ℕ → ℕ
-shareAt t shares i k j = on (setsOf (t .«class_of») i k) (getD shares (k * 47 + j) 0)
+shareAt t shares i k j = on (setsOf (t .«class_of») i k) (getD shares (k * mostIntervals + j) 0)
 
 -- class i in interval j, above the fans below it
 unfoldable pub laneAt : Tables → ℕ → ℕ → ℕ → model.Lane

@@ -3,12 +3,16 @@ use records::RECORD_SIZE;
 use records::Slot;
 use records::put_slot;
 use steps::index;
+use steps::limits::MOST_DOSES;
+use steps::limits::MOST_INSTANTS;
+use steps::limits::MOST_INTERVALS;
 use steps::of_byte;
 ghost use mathlib.Core.Path.{_≡_};
 ghost use mathlib.Core.List.{map};
 ghost use Prim.Native.Nat.{_+_, _*_, _<_, _≤_};
 ghost use lib.Dec.{eqb};
 ghost use lib.ListN.{length, getD};
+ghost use Rattle.model.specs.Limits.{cells, mostDoses, mostIntervals};
 ghost use Rattle.model.specs.Records.{recordSize};
 ghost use Rattle.model.specs.Sets.{on};
 ghost use Rattle.model.specs.Plans.{slotRecord};
@@ -33,10 +37,10 @@ pub struct Tables {
     pub doses: usize,
     pub classes: usize,
     pub intervals: usize,
-    pub instants: [u32; 48],
-    pub grams: [u32; 24],
-    pub time: [u32; 24],
-    pub class_of: [u32; 24],
+    pub instants: [u32; MOST_INSTANTS],
+    pub grams: [u32; MOST_DOSES],
+    pub time: [u32; MOST_DOSES],
+    pub class_of: [u32; MOST_DOSES],
 }
 
 // The slot from unit low up to unit high of a fan's stretch: "A moment is a tick plus part/W, part below W."
@@ -86,11 +90,11 @@ fn lay_share(b: &mut [u8], r: usize, l: Lane, dose: u32, a: u64, x: u64) -> usiz
 
 // The share of dose k in class i and interval j: none where the dose is of another class.
 fn share_of(class: u32, shares: &[u64], i: usize, k: usize, j: usize) -> u64
-    requires { ⌜ (i < 24) × (k < 24) × (j < 47) × (length (now shares) ≡ 1128) ⌝ }
-    ensures { λ r. ⌜ r ≡ on (eqb class (i + 1)) (getD (now (shares .entry)) (k * 47 + j) 0) ⌝ }
+    requires { ⌜ (i < mostDoses) × (k < mostDoses) × (j < mostIntervals) × (length (now shares) ≡ cells) ⌝ }
+    ensures { λ r. ⌜ r ≡ on (eqb class (i + 1)) (getD (now (shares .entry)) (k * mostIntervals + j) 0) ⌝ }
 {
     if index(class) == i + 1 {
-        return shares[k * 47 + j];
+        return shares[k * MOST_INTERVALS + j];
     }
     0
 }
@@ -105,7 +109,7 @@ fn lay_class(
     i: usize,
     j: usize,
 ) -> usize
-    requires { ⌜ Rooms (asLane l) (λ k. shareAt t (now shares) i k j) (t .doses) r (length (now b)) × (t .doses ≤ 24) × (i < 24) × (j < 47) × (length (now shares) ≡ 1128) ⌝ }
+    requires { ⌜ Rooms (asLane l) (λ k. shareAt t (now shares) i k j) (t .doses) r (length (now b)) × (t .doses ≤ mostDoses) × (i < mostDoses) × (j < mostIntervals) × (length (now shares) ≡ cells) ⌝ }
     ensures { λ q. ⌜ Wrote slotRecord (laneSlots (asLane l) (λ k. shareAt t (now (shares .entry)) i k j) (t .doses)) (now (b .entry)) r (now (b .exit)) q ⌝ }
 {
     let mut at = r;
@@ -122,7 +126,7 @@ fn lay_class(
 
 // Class i in interval j, above the fans below it.
 fn lane_of(t: Tables, i: usize, j: usize, below: u32) -> Lane
-    requires { ⌜ (i < 24) × (j < 47) × (getD (t .instants) j 0 ≤ getD (t .instants) (j + 1) 0) ⌝ }
+    requires { ⌜ (i < mostDoses) × (j < mostIntervals) × (getD (t .instants) j 0 ≤ getD (t .instants) (j + 1) 0) ⌝ }
     ensures { λ r. ⌜ asLane r ≡ laneAt t i j below ⌝ }
 {
     let start = t.instants[j];
@@ -142,7 +146,7 @@ fn lay_interval(
     r: usize,
     t: Tables,
     shares: &[u64],
-    reserved: &[[u8; 47]; 24],
+    reserved: &[[u8; MOST_INTERVALS]; MOST_DOSES],
     j: usize,
 ) -> usize
     requires { ⌜ Filled t (now shares) (now reserved) × (j < t .intervals) × (recordSize * (r + length (intervalSlots (tableFrom t (now shares) (now reserved)) j)) ≤ length (now b)) ⌝ }
@@ -165,7 +169,7 @@ pub fn lay_all(
     r: usize,
     t: Tables,
     shares: &[u64],
-    reserved: &[[u8; 47]; 24],
+    reserved: &[[u8; MOST_INTERVALS]; MOST_DOSES],
 ) -> usize
     requires { ⌜ Filled t (now shares) (now reserved) × (recordSize * (r + length (tableSlots (tableFrom t (now shares) (now reserved)))) ≤ length (now b)) ⌝ }
     ensures { λ q. ⌜ Wrote slotRecord (tableSlots (tableFrom t (now (shares .entry)) (now (reserved .entry)))) (now (b .entry)) r (now (b .exit)) q ⌝ }

@@ -11,7 +11,7 @@ use lib.Dec.{ltb}
 use lib.ListN.{length, getD, set, take, length-append}
 use lib.Seq.{length-take-le, take-all, take-suc}
 use Rattle.records.proofs.Laws.{join, length-written, written-none, written-one}
-use Rattle.lines.specs.Text.{Put, decimal, numberText, numbersText}
+use Rattle.lines.specs.Text.{Put, decimal, digitZero, numberText, numbersText}
 
 -- the promise leaves no choice
 pub put-same : {text b b₁ b₂ : List ℕ} {at e₁ e₂ : ℕ} → Put text b at b₁ e₁ → Put text b at b₂ e₂ → (b₁ ≡ b₂) × (e₁ ≡ e₂)
@@ -42,18 +42,18 @@ pub put-no-place : (b : List ℕ) (at v places : ℕ) → places ≡ 0 → Put (
 unfolding decimal
 put-no-place b at v places e = rw e (put-none b at)
 
-pub put-digit : (b : List ℕ) (at v places : ℕ) → (places ≡ 0 → ⊥) → v < 10 → Put (decimal places v) b at (set b at (48 + v)) (at + 1)
+pub put-digit : (b : List ℕ) (at v places : ℕ) → (places ≡ 0 → ⊥) → v < 10 → Put (decimal places v) b at (set b at (digitZero + v)) (at + 1)
 unfolding decimal
 put-digit b at v zero n h = absurd (n refl)
-put-digit b at v (suc places) n h = rw (lt-ltb v 10 h) (put-one b at (48 + v))
+put-digit b at v (suc places) n h = rw (lt-ltb v 10 h) (put-one b at (digitZero + v))
 
 pub put-last : (b b₁ : List ℕ) (at v places k : ℕ) → (places ≡ 0 → ⊥) → 10 ≤ v → Put (decimal (places - 1) (v / 10)) b at b₁ k
-    → Put (decimal places v) b at (set b₁ k (48 + v % 10)) (k + 1)
+    → Put (decimal places v) b at (set b₁ k (digitZero + v % 10)) (k + 1)
 unfolding decimal
 put-last b b₁ at v zero k n h p = absurd (n refl)
 put-last b b₁ at v (suc places) k n h p =
     let e : suc places - 1 ≡ places = omega arith in
-    rw (le-ltb v 10 h) (put-more (rw e at p) (put-one b₁ k (48 + v % 10)))
+    rw (le-ltb v 10 h) (put-more (rw e at p) (put-one b₁ k (digitZero + v % 10)))
 
 -- no more digits than places
 pub decimal-length : (places v : ℕ) → length (decimal places v) ≤ places
@@ -63,7 +63,7 @@ decimal-length (suc places) v = go (ltb v 10) refl (decimal-length places (v / 1
   where
     go : (t : Bool) → ltb v 10 ≡ t → length (decimal places (v / 10)) ≤ places → length (decimal (suc places) v) ≤ suc places
     go true e h = rw e (omega arith)
-    go false e h = rw e (omega (arith, length-append (decimal places (v / 10)) ((48 + v % 10) ∷ [])))
+    go false e h = rw e (omega (arith, length-append (decimal places (v / 10)) ((digitZero + v % 10) ∷ [])))
 
 -- ---- numbers and words
 

@@ -9,17 +9,21 @@ use Rattle.model.specs.Lists.{gather}
 use Rattle.model.specs.Records.{pick, classKind, recordAt}
 use Rattle.model.specs.Plans.{Class, Slot, PlanRecord, classRecord, slotRecord, classOf, slotOf}
 
+-- the byte of the digit 0
+abbrev pub digitZero : ℕ
+digitZero = 48
+
 -- ---- numbers
 
 -- a number in decimal, at most so many places: the digits of its tenth part, then its last digit
 unfoldable pub decimal : ℕ → ℕ → List ℕ
 decimal zero v = []
-decimal (suc places) v = pick (ltb v 10) ((48 + v) ∷ []) (decimal places (v / 10) ++ ((48 + v % 10) ∷ []))
+decimal (suc places) v = pick (ltb v 10) ((digitZero + v) ∷ []) (decimal places (v / 10) ++ ((digitZero + v % 10) ∷ []))
 
 -- the number that digits say, behind a number that was read before them
 unfoldable pub readOn : ℕ → List ℕ → ℕ
 readOn before [] = before
-readOn before (d ∷ ds) = readOn (before * 10 + (d - 48)) ds
+readOn before (d ∷ ds) = readOn (before * 10 + (d - digitZero)) ds
 
 -- ---- lines
 

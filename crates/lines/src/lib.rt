@@ -20,11 +20,11 @@ fn put_decimal(b: &mut [u8], at: usize, v: u64, places: usize) -> usize
         return at;
     }
     if v < 10 {
-        b[at] = 48 + v as u8;
+        b[at] = b'0' + v as u8;
         return at + 1;
     }
     let last = put_decimal(b, at, v / 10, places - 1);
-    b[last] = 48 + (v % 10) as u8;
+    b[last] = b'0' + (v % 10) as u8;
     last + 1
 }
 

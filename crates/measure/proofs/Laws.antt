@@ -6,6 +6,7 @@ use Prim.Native.Nat.{ℕ, zero, suc, _*_, _<_, _≤_, min}
 use native.Mathlib.Nat.{mul-le-mul}
 use native.Mathlib.Omega.{arith}
 use lib.ListN.{getD}
+use Rattle.model.specs.Limits.{mostClassGrams, mostDoses, mostGrams, week}
 use Rattle.model.specs.Sets.{sum, on, weight, Doses}
 use Rattle.model.specs.Classes.{Setting, Row, P, openFans}
 use Rattle.model.proofs.Same.{Agree, fans-same, grams-same, time-same}
@@ -22,16 +23,16 @@ sum-most zero b f h = omega arith
 sum-most (suc n) b f h = omega (arith, sum-most n b f (λ k l. h k (omega arith)), h n (omega arith))
 
 module _ {n J : ℕ} {release deadline instants : List ℕ} {active : List Bool} {lens grams : List ℕ} (sheet : Sheet n J release deadline instants active lens grams) where
-  pub grams-most : (A : Doses) → weight n (λ k. getD grams k 0) A ≤ 24000000
+  pub grams-most : (A : Doses) → weight n (λ k. getD grams k 0) A ≤ mostClassGrams
   unfolding weight
   grams-most A =
-      omega (arith, sheet .few-doses, sum-most n 1000000 (λ k. on (A k) (getD grams k 0)) (λ k l. omega (arith, on-below (A k) (getD grams k 0), sheet .light k)))
+      omega (arith, sheet .few-doses, sum-most n mostGrams (λ k. on (A k) (getD grams k 0)) (λ k l. omega (arith, on-below (A k) (getD grams k 0), sheet .light k)))
 
-  pub time-most : (fans : List ℕ) → Below 24 fans → sum J (λ j. lenOf instants j * getD fans j 0) ≤ 1000000000
+  pub time-most : (fans : List ℕ) → Below mostDoses fans → sum J (λ j. lenOf instants j * getD fans j 0) ≤ 1000000000
   time-most fans small =
       omega (arith, sheet .few-intervals, sum-most J 14515200 (λ j. lenOf instants j * getD fans j 0) (λ j l. omega (arith, mul-le-mul (short j l) (small j))))
     where
-      short : (j : ℕ) → j < J → lenOf instants j ≤ 604800
+      short : (j : ℕ) → j < J → lenOf instants j ≤ week
       short j l = omega (arith, sheet .same .len j l, sheet .short j)
 
 -- ---- what is worked out in the arrays is what a set weighs and opens

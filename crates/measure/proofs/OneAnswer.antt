@@ -4,16 +4,17 @@ use mathlib.Core.List.{List}
 use mathlib.Core.Path.{_≡_, sym, _∙_}
 use Prim.Native.Nat.{ℕ, _<_}
 use lib.ListN.{length, getD}
+use Rattle.model.specs.Limits.{mostDoses, mostIntervals}
 use Rattle.steps.proofs.Arrays.{filled-one, places-one}
 use Rattle.steps.proofs.Tests.{below-or}
 use Rattle.sheet.specs.Sheet.{setsOf}
 use Rattle.measure.specs.Measure.{Opens}
 
-pub set-one : (numbers : List ℕ) (i : ℕ) {r r′ : List Bool} → length r ≡ 24 → length r′ ≡ 24
-    → ((k : ℕ) → k < 24 → getD r k false ≡ setsOf numbers i k) → ((k : ℕ) → k < 24 → getD r′ k false ≡ setsOf numbers i k) → r ≡ r′
-set-one numbers i l l′ a b = filled-one false 24 l l′ a b
+pub set-one : (numbers : List ℕ) (i : ℕ) {r r′ : List Bool} → length r ≡ mostDoses → length r′ ≡ mostDoses
+    → ((k : ℕ) → k < mostDoses → getD r k false ≡ setsOf numbers i k) → ((k : ℕ) → k < mostDoses → getD r′ k false ≡ setsOf numbers i k) → r ≡ r′
+set-one numbers i l l′ a b = filled-one false mostDoses l l′ a b
 
-pub opens-one : (release deadline instants : List ℕ) (n J : ℕ) (set : List Bool) (free : List ℕ) {r r′ : List ℕ} → length r ≡ 47 → length r′ ≡ 47
+pub opens-one : (release deadline instants : List ℕ) (n J : ℕ) (set : List Bool) (free : List ℕ) {r r′ : List ℕ} → length r ≡ mostIntervals → length r′ ≡ mostIntervals
     → Opens release deadline instants n J set free r → Opens release deadline instants n J set free r′ → r ≡ r′
 opens-one release deadline instants n J set free l l′ a b =
-    places-one 0 47 l l′ (λ j q. below-or j J (λ h. a .smaller j h ∙ sym (b .smaller j h)) (λ h. a .none j h ∙ sym (b .none j h)))
+    places-one 0 mostIntervals l l′ (λ j q. below-or j J (λ h. a .smaller j h ∙ sym (b .smaller j h)) (λ h. a .none j h ∙ sym (b .none j h)))

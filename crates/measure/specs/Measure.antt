@@ -4,6 +4,7 @@ use mathlib.Core.Bool.{Bool}
 use mathlib.Core.List.{List}
 use Prim.Native.Nat.{ℕ, _<_, _≤_, min}
 use lib.ListN.{getD}
+use Rattle.model.specs.Limits.{mostDoses, mostIntervals}
 use Rattle.model.specs.Sets.{on, weight, Doses}
 use Rattle.model.specs.Classes.{Setting, Row, W, P, openFans}
 use Rattle.sheet.specs.Sheet.{setOf, reaches, Below}
@@ -16,11 +17,11 @@ countIn release deadline instants n set j = weight n (λ k. on (reaches release 
 pub record Opens (release deadline instants : List ℕ) (n J : ℕ) (set : List Bool) (free open-fans : List ℕ) : Type 0 where
   pub smaller : (j : ℕ) → j < J → getD open-fans j 0 ≡ min (countIn release deadline instants n set j) (getD free j 0)
   pub none : (j : ℕ) → J ≤ j → getD open-fans j 0 ≡ 0
-  pub small : Below 24 open-fans
+  pub small : Below mostDoses open-fans
 
 -- W, P and the open fans of a set are worked out
 pub record Measured (S : Setting) (row : Row) (A : Doses) (w p : ℕ) (open-fans : List ℕ) : Type 0 where
   pub grams : w ≡ W S A
   pub time : p ≡ P S row A
   pub fans : (j : ℕ) → j < S .intervals → getD open-fans j 0 ≡ openFans S row A j
-  pub no-fans : (j : ℕ) → S .intervals ≤ j → j < 47 → getD open-fans j 0 ≡ 0
+  pub no-fans : (j : ℕ) → S .intervals ≤ j → j < mostIntervals → getD open-fans j 0 ≡ 0

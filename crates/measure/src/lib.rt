@@ -2,6 +2,9 @@
 use steps::both;
 use steps::index;
 use steps::less;
+use steps::limits::MOST_DOSES;
+use steps::limits::MOST_INSTANTS;
+use steps::limits::MOST_INTERVALS;
 use steps::on;
 use steps::smaller;
 use steps::wide;
@@ -9,6 +12,7 @@ ghost use mathlib.Core.Path.{_≡_};
 ghost use mathlib.Core.Bool.{false};
 ghost use Prim.Native.Nat.{ℕ, _+_, _*_, _<_, _≤_};
 ghost use lib.ListN.{length, getD};
+ghost use Rattle.model.specs.Limits.{mostDoses, mostIntervals};
 ghost use Rattle.model.specs.Sets.{sum, weight};
 ghost use Rattle.model.specs.Sets as sets;
 ghost use Rattle.model.specs.Classes.{setNumber};
@@ -16,13 +20,13 @@ ghost use Rattle.sheet.specs.Sheet.{setOf, setsOf, within, lenOf, Below};
 ghost use Rattle.measure.specs.Measure.{countIn, Opens};
 
 // The doses of class i, by the number that each dose's class has.
-pub fn set_of(numbers: &[u32; 24], i: usize) -> [bool; 24]
-    requires { ⌜ i < 24 ⌝ }
-    ensures { λ r. ⌜ ((k : ℕ) → k < 24 → getD r k false ≡ setsOf (now (numbers .entry)) i k) ⌝ }
+pub fn set_of(numbers: &[u32; MOST_DOSES], i: usize) -> [bool; MOST_DOSES]
+    requires { ⌜ i < mostDoses ⌝ }
+    ensures { λ r. ⌜ ((k : ℕ) → k < mostDoses → getD r k false ≡ setsOf (now (numbers .entry)) i k) ⌝ }
 {
-    let mut set = [false; 24];
+    let mut set = [false; MOST_DOSES];
     let mut k = 0;
-    while k < 24 {
+    while k < MOST_DOSES {
         set[k] = index(numbers[k]) == i + 1;
         k += 1;
     }
@@ -30,8 +34,8 @@ pub fn set_of(numbers: &[u32; 24], i: usize) -> [bool; 24]
 }
 
 // "the first class as a number with bit i for dose i".
-pub fn first_set(numbers: [u32; 24], doses: usize) -> u64
-    requires { ⌜ doses ≤ 24 ⌝ }
+pub fn first_set(numbers: [u32; MOST_DOSES], doses: usize) -> u64
+    requires { ⌜ doses ≤ mostDoses ⌝ }
     ensures { λ r. ⌜ r ≡ setNumber doses (setsOf numbers 0) ⌝ }
 {
     let mut sum: u64 = 0;
@@ -46,8 +50,8 @@ pub fn first_set(numbers: [u32; 24], doses: usize) -> u64
 }
 
 // "W(A) is the sum of grams of A."
-pub fn grams_of(grams: &[u32; 24], doses: usize, set: [bool; 24]) -> u64
-    requires { ⌜ doses ≤ 24 ⌝ }
+pub fn grams_of(grams: &[u32; MOST_DOSES], doses: usize, set: [bool; MOST_DOSES]) -> u64
+    requires { ⌜ doses ≤ mostDoses ⌝ }
     ensures { λ r. ⌜ r ≡ weight doses (λ k. getD (now (grams .entry)) k 0) (setOf set) ⌝ }
 {
     let mut sum: u64 = 0;
@@ -60,8 +64,8 @@ pub fn grams_of(grams: &[u32; 24], doses: usize, set: [bool; 24]) -> u64
 }
 
 // How many doses are in the set.
-pub fn size_of(doses: usize, set: [bool; 24]) -> u64
-    requires { ⌜ doses ≤ 24 ⌝ }
+pub fn size_of(doses: usize, set: [bool; MOST_DOSES]) -> u64
+    requires { ⌜ doses ≤ mostDoses ⌝ }
     ensures { λ r. ⌜ (r ≡ weight doses (λ k. 1) (setOf set)) × (r ≤ doses) ⌝ }
 {
     let mut sum: u64 = 0;
@@ -75,14 +79,14 @@ pub fn size_of(doses: usize, set: [bool; 24]) -> u64
 
 // The active doses so far, interval by interval, with one dose more.
 fn with_dose(
-    counts: &mut [u64; 47],
+    counts: &mut [u64; MOST_INTERVALS],
     release: u32,
     deadline: u32,
-    instants: &[u32; 48],
+    instants: &[u32; MOST_INSTANTS],
     intervals: usize,
 )
-    requires { ⌜ (length (now counts) ≡ 47) × (intervals ≤ 47) × ((j : ℕ) → j < intervals → getD (now counts) j 0 ≤ 23) ⌝ }
-    ensures { λ _. ⌜ (length (now (counts .exit)) ≡ 47) × ((j : ℕ) → j < intervals → getD (now (counts .exit)) j 0 ≡ getD (now (counts .entry)) j 0 + sets.on (within release deadline (now (instants .entry)) j) 1) ⌝ }
+    requires { ⌜ (length (now counts) ≡ mostIntervals) × (intervals ≤ mostIntervals) × ((j : ℕ) → j < intervals → getD (now counts) j 0 ≤ 23) ⌝ }
+    ensures { λ _. ⌜ (length (now (counts .exit)) ≡ mostIntervals) × ((j : ℕ) → j < intervals → getD (now (counts .exit)) j 0 ≡ getD (now (counts .entry)) j 0 + sets.on (within release deadline (now (instants .entry)) j) 1) ⌝ }
 {
     let mut j = 0;
     while j < intervals {
@@ -94,17 +98,17 @@ fn with_dose(
 
 // "(active doses of A)", for each interval.
 fn active_row(
-    release: &[u32; 24],
-    deadline: &[u32; 24],
-    instants: &[u32; 48],
+    release: &[u32; MOST_DOSES],
+    deadline: &[u32; MOST_DOSES],
+    instants: &[u32; MOST_INSTANTS],
     doses: usize,
     intervals: usize,
-    set: [bool; 24],
-) -> [u64; 47]
-    requires { ⌜ (doses ≤ 24) × (intervals ≤ 47) ⌝ }
-    ensures { λ r. ⌜ ((j : ℕ) → j < intervals → (getD r j 0 ≡ countIn (now (release .entry)) (now (deadline .entry)) (now (instants .entry)) doses set j) × (getD r j 0 ≤ 24)) ⌝ }
+    set: [bool; MOST_DOSES],
+) -> [u64; MOST_INTERVALS]
+    requires { ⌜ (doses ≤ mostDoses) × (intervals ≤ mostIntervals) ⌝ }
+    ensures { λ r. ⌜ ((j : ℕ) → j < intervals → (getD r j 0 ≡ countIn (now (release .entry)) (now (deadline .entry)) (now (instants .entry)) doses set j) × (getD r j 0 ≤ mostDoses)) ⌝ }
 {
-    let mut counts = [0u64; 47];
+    let mut counts = [0u64; MOST_INTERVALS];
     let mut k = 0;
     while k < doses {
         if !set[k] {
@@ -119,19 +123,19 @@ fn active_row(
 
 // "the smaller of (active doses of A) and (fans − fans reserved by earlier classes)", for each interval.
 pub fn open_fans(
-    release: &[u32; 24],
-    deadline: &[u32; 24],
-    instants: &[u32; 48],
+    release: &[u32; MOST_DOSES],
+    deadline: &[u32; MOST_DOSES],
+    instants: &[u32; MOST_INSTANTS],
     doses: usize,
     intervals: usize,
-    set: [bool; 24],
-    free: [u64; 47],
-) -> [u64; 47]
-    requires { ⌜ (doses ≤ 24) × (intervals ≤ 47) ⌝ }
+    set: [bool; MOST_DOSES],
+    free: [u64; MOST_INTERVALS],
+) -> [u64; MOST_INTERVALS]
+    requires { ⌜ (doses ≤ mostDoses) × (intervals ≤ mostIntervals) ⌝ }
     ensures { λ r. ⌜ Opens (now (release .entry)) (now (deadline .entry)) (now (instants .entry)) doses intervals set free r ⌝ }
 {
     let counts = active_row(release, deadline, instants, doses, intervals, set);
-    let mut reserved = [0u64; 47];
+    let mut reserved = [0u64; MOST_INTERVALS];
     let mut j = 0;
     while j < intervals {
         reserved[j] = smaller(counts[j], free[j]);
@@ -141,8 +145,12 @@ pub fn open_fans(
 }
 
 // "P(A) its open fan time": "the sum over intervals of length × the smaller of" the two.
-pub fn fan_time(instants: &[u32; 48], intervals: usize, reserved: [u64; 47]) -> u64
-    requires { ⌜ (intervals ≤ 47) × Below 24 reserved ⌝ }
+pub fn fan_time(
+    instants: &[u32; MOST_INSTANTS],
+    intervals: usize,
+    reserved: [u64; MOST_INTERVALS],
+) -> u64
+    requires { ⌜ (intervals ≤ mostIntervals) × Below mostDoses reserved ⌝ }
     ensures { λ r. ⌜ r ≡ sum intervals (λ j. lenOf (now (instants .entry)) j * getD reserved j 0) ⌝ }
 {
     let mut sum: u64 = 0;

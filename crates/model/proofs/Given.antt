@@ -11,6 +11,7 @@ use lib.Dec.{T, T-not, eqb, eqb-refl, eqb→eq, leb, leb→le, nleb→lt}
 use lib.Ieee.Bits.{is-false, is-true}
 use lib.ListN.{length, getD, length-append, List·getD-append}
 use lib.Seq.{getD-append-seam}
+use Rattle.model.specs.Limits.{mostDoses, orderRoom}
 use Rattle.model.specs.Records.{pick, Reading, read, refused, andThen, fansParts, doseParts, blankAt, recordAt, readAll}
 use Rattle.model.specs.Orders.{Dose, noDose, Entry, fansEntry, doseEntry, fansOf, doseOf, fansFit, doseFits, checked, entryOf, fansIn, dosesIn, apart, clash, clashesAny, noClash, orderIn, restOf, orderOf, readOrder}
 use Rattle.model.proofs.Sums.{last}
@@ -46,7 +47,7 @@ pub data RecordRow (r : List ℕ) : ℕ → Type 0 where
 -- 2 is passed
 pub record Sized (order : List ℕ) : Type 0 where
   pub whole : length order % 32 ≡ 0
-  pub short : length order ≤ 1600
+  pub short : length order ≤ orderRoom
 
 -- record i is there, and all before it are read: "record by record"
 pub record Reached (order : List ℕ) (i : ℕ) : Type 0 where
@@ -84,15 +85,15 @@ pub record OverlapsEarlier (rest : ℕ) (es : List Entry) (i : ℕ) : Type 0 whe
 -- the table: number and place
 pub data Given (order : List ℕ) : ℕ → ℕ → Type 0 where
   -- 2 "order length no multiple of 32, or over 1,600"
-  wrong-length : (length order % 32 ≢ 0) ⊎ (1600 < length order) → Given order 2 0
+  wrong-length : (length order % 32 ≢ 0) ⊎ (orderRoom < length order) → Given order 2 0
   -- 3, 4, 5: "Place is the record's index"
   wrong-record : (number i : ℕ) → Reached order i → RecordRow (recordAt order i) number → Given order number i
   -- 6 "F records not exactly one"
   not-one-fans : (es : List Entry) → Entries order es → length (fansIn es) ≢ 1 → Given order 6 0
   -- 7 "more than 24 doses"
-  many-doses : (es : List Entry) → Entries order es → length (fansIn es) ≡ 1 → 24 < length (dosesIn es) → Given order 7 0
+  many-doses : (es : List Entry) → Entries order es → length (fansIn es) ≡ 1 → mostDoses < length (dosesIn es) → Given order 7 0
   -- 8: place is "the record index of the first D that overlaps an earlier one"
-  overlapping : (es : List Entry) → Entries order es → length (fansIn es) ≡ 1 → length (dosesIn es) ≤ 24
+  overlapping : (es : List Entry) → Entries order es → length (fansIn es) ≡ 1 → length (dosesIn es) ≤ mostDoses
       → (i : ℕ) → OverlapsEarlier (restOf (orderIn es)) es i → ((k : ℕ) → k < i → OverlapsEarlier (restOf (orderIn es)) es k → ⊥) → Given order 8 i
 
 -- ---- one record
@@ -276,7 +277,7 @@ module _ (rest : ℕ) where
 
 module _ (order : List ℕ) where
   abbrev sizedTest : Bool
-  sizedTest = eqb (length order % 32) 0 && leb (length order) 1600
+  sizedTest = eqb (length order % 32) 0 && leb (length order) orderRoom
 
   from-zero : (k : ℕ) → entryOf (recordAt order k) k ≡ entryOf (recordAt order (0 + k)) (0 + k)
   from-zero k = ap (λ (h : ℕ). entryOf (recordAt order h) h) (sym (zero-add k))
@@ -286,7 +287,7 @@ module _ (order : List ℕ) where
   order-says =
       says-pick _ (Given order) sizedTest _ _ (λ t. says-then _ (Given order) (Entries order) (readAll entryOf order) orderOf (records (sized t)) (λ es g.
       let one = eqb (length (fansIn es)) 1 in
-      let few = leb (length (dosesIn es)) 24 in
+      let few = leb (length (dosesIn es)) mostDoses in
       says-pick _ (Given order) one _ _ (λ f.
       says-pick _ (Given order) few _ _
       (λ d. says-then _ (Given order) (λ ds. Unit {0}) (noClash (restOf (orderIn es)) [] 0 es) _ (overlaps es g (eqb→eq _ _ f) (leb→le _ _ d) (noClash (restOf (orderIn es)) [] 0 es) (first-clash (restOf (orderIn es)) es)) (λ ds u. tt))
@@ -296,11 +297,11 @@ module _ (order : List ℕ) where
     where
       sized : T sizedTest → Sized order
       sized t = record {
-        whole = eqb→eq _ _ (and-left (eqb (length order % 32) 0) (leb (length order) 1600) t);
-        short = leb→le _ _ (and-right (eqb (length order % 32) 0) (leb (length order) 1600) t);
+        whole = eqb→eq _ _ (and-left (eqb (length order % 32) 0) (leb (length order) orderRoom) t);
+        short = leb→le _ _ (and-right (eqb (length order % 32) 0) (leb (length order) orderRoom) t);
       }
 
-      unsized : (b : Bool) → eqb (length order % 32) 0 ≡ b → T (not (b && leb (length order) 1600)) → (length order % 32 ≢ 0) ⊎ (1600 < length order)
+      unsized : (b : Bool) → eqb (length order % 32) 0 ≡ b → T (not (b && leb (length order) orderRoom)) → (length order % 32 ≢ 0) ⊎ (orderRoom < length order)
       unsized true e t = inr (nleb→lt _ _ t)
       unsized false e t = inl (eqb-false _ _ e)
 
@@ -318,7 +319,7 @@ module _ (order : List ℕ) where
                 earlier = λ k l. let e = s .2 k l in (e .0, from-zero k ∙ e .1);
               }) (r .0))
 
-      overlaps : (es : List Entry) → Entries order es → length (fansIn es) ≡ 1 → length (dosesIn es) ≤ 24
+      overlaps : (es : List Entry) → Entries order es → length (fansIn es) ≡ 1 → length (dosesIn es) ≤ mostDoses
           → (x : Reading (List Dose)) → Says x (NoOverlaps (restOf (orderIn es)) es) (FirstOverlap (restOf (orderIn es)) es) → Says x (λ ds. Unit {0}) (Given order)
       overlaps es g one few (read ds) s = tt
       overlaps es g one few (refused number place) s = rw (s .0) (overlapping es g one few place (s .1) (s .2))
@@ -326,7 +327,7 @@ module _ (order : List ℕ) where
   -- 2 is passed
   past-length : Sized order → readOrder order ≡ andThen (readAll entryOf order) orderOf
   unfolding readOrder
-  past-length z = rw (eq-eqb (length order % 32) 0 (z .whole), le-leb (length order) 1600 (z .short))
+  past-length z = rw (eq-eqb (length order % 32) 0 (z .whole), le-leb (length order) orderRoom (z .short))
 
   -- 3, 4, 5 are passed
   past-records : (es : List Entry) → Entries order es → readOrder order ≡ orderOf es
@@ -340,10 +341,10 @@ module _ (order : List ℕ) where
   unfolding readOrder orderOf
   row-given number place (wrong-length w) = elim w [
     | inl h ↦ rw (ne-eqb (length order % 32) 0 h)
-    | inr h ↦ unsized (eqb (length order % 32) 0) (lt-leb (length order) 1600 h)
+    | inr h ↦ unsized (eqb (length order % 32) 0) (lt-leb (length order) orderRoom h)
   ]
     where
-      unsized : (b : Bool) → leb (length order) 1600 ≡ false → pick (b && leb (length order) 1600) (andThen (readAll entryOf order) orderOf) (refused 2 0) ≡ refused 2 0
+      unsized : (b : Bool) → leb (length order) orderRoom ≡ false → pick (b && leb (length order) orderRoom) (andThen (readAll entryOf order) orderOf) (refused 2 0) ≡ refused 2 0
       unsized true e = rw e
       unsized false e = refl
   row-given number place (wrong-record n i r row) =
@@ -351,8 +352,8 @@ module _ (order : List ℕ) where
       ∙ ap (λ (x : Reading (List Entry)). andThen x orderOf)
       (walk-refused entryOf order noEntry (length order / 32) 0 n i (i, r .there, λ k l. let e = r .earlier k l in (e .0, sym (from-zero k) ∙ e .1), sym (from-zero i) ∙ row-refuses (recordAt order i) i n row))
   row-given number place (not-one-fans es g h) = past-records es g ∙ rw (ne-eqb (length (fansIn es)) 1 h)
-  row-given number place (many-doses es g one h) = past-records es g ∙ rw (one, lt-leb (length (dosesIn es)) 24 h)
-  row-given number place (overlapping es g one few i o none) = past-records es g ∙ rw (one, le-leb (length (dosesIn es)) 24 few, clash-refuses (restOf (orderIn es)) es i o none)
+  row-given number place (many-doses es g one h) = past-records es g ∙ rw (one, lt-leb (length (dosesIn es)) mostDoses h)
+  row-given number place (overlapping es g one few i o none) = past-records es g ∙ rw (one, le-leb (length (dosesIn es)) mostDoses few, clash-refuses (restOf (orderIn es)) es i o none)
 
   -- the table: a number and place are given exactly when their row says
   pub given-exactly : (number place : ℕ) → (readOrder order ≡ refused number place) ↔ Given order number place

@@ -8,6 +8,7 @@ use native.Mathlib.Numerals.{add-one}
 use native.Mathlib.Omega.{arith}
 use borrow.Author.Tests.{lt-ltb, le-ltb, eq-eqb, ne-eqb}
 use lib.ListN.{length, getD, List·getD-eq-default}
+use Rattle.model.specs.Limits.{mostIntervals, week}
 use Rattle.model.specs.Lists.{All, none, also, Pairs, lone, then}
 use Rattle.model.specs.Orders.{Dose, Order, noDose, doseAt}
 use Rattle.model.specs.Intervals.{insert, instants, instantAt, intervalCount}
@@ -227,15 +228,15 @@ module _ (o : Order) where
   instants-rise j l = rw (add-one j) (rises-by-one (instants (o .doses)) (instants-sorted (o .doses)) j (omega arith))
 
   -- and lies in the week
-  pub instants-week : Fit o → (j : ℕ) → instantAt o j ≤ 604800
+  pub instants-week : Fit o → (j : ℕ) → instantAt o j ≤ week
   instants-week fit j = elim (compare≤ (length (instants (o .doses))) j) [
     | inl h ↦ rw (List·getD-eq-default (instants (o .doses)) 0 h) (omega arith)
-    | inr h ↦ every-bound (λ v. v ≤ 604800) (o .doses) (λ k l. omega (arith, fit .window k l, fit .week k l)) (fit .week) _
+    | inr h ↦ every-bound (λ v. v ≤ week) (o .doses) (λ k l. omega (arith, fit .window k l, fit .week k l)) (fit .week) _
         (instants-only (o .doses) _ (member-at (instants (o .doses)) j h))
   ]
 
   -- "at most 47"
-  pub few-intervals : Fit o → intervalCount o ≤ 47
+  pub few-intervals : Fit o → intervalCount o ≤ mostIntervals
   few-intervals fit = omega (arith, instants-few (o .doses), fit .few)
 
   -- no window opens inside an interval

@@ -7,6 +7,7 @@ use Prim.Native.Nat.{ℕ, zero, suc, _+_, _/_, _%_, _≤_, _<_}
 use native.Mathlib.Omega.{arith}
 use lib.Dec.{T, eqb, leb, leb→le, eqb→eq, eqb-refl}
 use lib.ListN.{length, getD}
+use Rattle.model.specs.Limits.{lastRelease, mostBay, mostDoses, mostFans, mostGrams, mostTop, orderRoom, week}
 use Rattle.model.specs.Lists.{All, none, also, Pairs, lone, then}
 use Rattle.model.specs.Records.{pick, within, Reading, read, refused, andThen, fansParts, doseParts, blankAt, recordAt, readFrom, readAll}
 use Rattle.model.specs.Orders.{Fans, Dose, Order, noDose, doseAt, Entry, fansEntry, doseEntry, fansOf, doseOf, fansFit, doseFits, checked, entryOf, fansIn, dosesIn, apart, clash, clashesAny, noClash, orderWith, orderIn, restOf, orderOf, readOrder}
@@ -146,14 +147,14 @@ module _ (rest : ℕ) where
 -- every field of the order is in its range, and windows of one bay have the order's rest between them
 pub record Fit (o : Order) : Type 0 where
   pub fans-least : 1 ≤ o .fans
-  pub fans-most : o .fans ≤ 8
+  pub fans-most : o .fans ≤ mostFans
   pub top-grams : 1 ≤ o .topGrams
   pub top-seconds : 1 ≤ o .topSeconds
-  pub few : length (o .doses) ≤ 24
+  pub few : length (o .doses) ≤ mostDoses
   pub window : (k : ℕ) → k < length (o .doses) → doseAt o k .release < doseAt o k .deadline
-  pub week : (k : ℕ) → k < length (o .doses) → doseAt o k .deadline ≤ 604800
+  pub week : (k : ℕ) → k < length (o .doses) → doseAt o k .deadline ≤ week
   pub some-grams : (k : ℕ) → k < length (o .doses) → 1 ≤ doseAt o k .grams
-  pub light : (k : ℕ) → k < length (o .doses) → doseAt o k .grams ≤ 1000000
+  pub light : (k : ℕ) → k < length (o .doses) → doseAt o k .grams ≤ mostGrams
   pub inlets : (i k : ℕ) → i < k → k < length (o .doses) → doseAt o i .bay ≡ doseAt o k .bay
       → (doseAt o i .deadline + restOf o ≤ doseAt o k .release) ⊎ (doseAt o k .deadline + restOf o ≤ doseAt o i .release)
 
@@ -169,24 +170,24 @@ four true true true true t = (tt, tt, tt, tt)
 pub three : (a b c : Bool) → T (a && b && c) → T a × T b × T c
 three true true true t = (tt, tt, tt)
 
-dose-parts : (d : Dose) → T (doseFits d) → (d .release < d .deadline) × (d .deadline ≤ 604800) × (1 ≤ d .grams) × (d .grams ≤ 1000000)
+dose-parts : (d : Dose) → T (doseFits d) → (d .release < d .deadline) × (d .deadline ≤ week) × (1 ≤ d .grams) × (d .grams ≤ mostGrams)
 dose-parts d t =
-    let r = four (within 1 999 (d .bay)) (leb (d .release) 604799) (within (d .release + 1) 604800 (d .deadline)) (within 1 1000000 (d .grams)) t in
-    let window = in-range (d .release + 1) 604800 (d .deadline) (r .2) in
-    let grams = in-range 1 1000000 (d .grams) (r .3) in
+    let r = four (within 1 mostBay (d .bay)) (leb (d .release) lastRelease) (within (d .release + 1) week (d .deadline)) (within 1 mostGrams (d .grams)) t in
+    let window = in-range (d .release + 1) week (d .deadline) (r .2) in
+    let grams = in-range 1 mostGrams (d .grams) (r .3) in
     (omega (arith, window .0), window .1, grams .0, grams .1)
 
-order-fits : (fs : List Fans) (ds : List Dose) → length fs ≡ 1 → All (λ f. T (fansFit f)) fs → length ds ≤ 24 → All (λ d. T (doseFits d)) ds
+order-fits : (fs : List Fans) (ds : List Dose) → length fs ≡ 1 → All (λ f. T (fansFit f)) fs → length ds ≤ mostDoses → All (λ d. T (doseFits d)) ds
     → Pairs (NoClash (restOf (orderWith fs ds))) ds → Fit (orderWith fs ds)
 order-fits [] ds one af few ad free = absurd (omega arith)
 order-fits (f ∷ fs) ds one (also p af) few ad free =
-    let r = three (within 1 8 (f .fans)) (within 1 1000000 (f .topGrams)) (within 1 1000000 (f .topSeconds)) p in
-    let fan = in-range 1 8 (f .fans) (r .0) in
+    let r = three (within 1 mostFans (f .fans)) (within 1 mostTop (f .topGrams)) (within 1 mostTop (f .topSeconds)) p in
+    let fan = in-range 1 mostFans (f .fans) (r .0) in
     record {
       fans-least = fan .0;
       fans-most = fan .1;
-      top-grams = in-range 1 1000000 (f .topGrams) (r .1) .0;
-      top-seconds = in-range 1 1000000 (f .topSeconds) (r .2) .0;
+      top-grams = in-range 1 mostTop (f .topGrams) (r .1) .0;
+      top-seconds = in-range 1 mostTop (f .topSeconds) (r .2) .0;
       few = few;
       window = λ k l. dose-parts (getD ds k noDose) (All-at noDose ad k l) .0;
       week = λ k l. dose-parts (getD ds k noDose) (All-at noDose ad k l) .1;
@@ -200,7 +201,7 @@ unfolding orderOf
 entries-fit es o all e =
     let rest = restOf (orderIn es) in
     let c = passed (eqb (length (fansIn es)) 1) _ 6 0 o e in
-    let d = passed (leb (length (dosesIn es)) 24) _ 7 0 o (c .1) in
+    let d = passed (leb (length (dosesIn es)) mostDoses) _ 7 0 o (c .1) in
     let f = went-on (noClash rest [] 0 es) _ o (d .1) in
     let g = doses-read rest [] 0 es (f .0) (f .1) in
     rw (same (f .0) g (f .2))
@@ -213,6 +214,6 @@ entries-fit es o all e =
 pub read-fits : (bytes : List ℕ) (o : Order) → readOrder bytes ≡ read o → Fit o
 unfolding readOrder
 read-fits bytes o e =
-    let a = passed (eqb (length bytes % 32) 0 && leb (length bytes) 1600) _ 2 0 o e in
+    let a = passed (eqb (length bytes % 32) 0 && leb (length bytes) orderRoom) _ 2 0 o e in
     let b = went-on (readAll entryOf bytes) orderOf o (a .1) in
     entries-fit (b .0) o (all-read EntryFits entryOf entry-fits bytes 0 (length bytes / 32) (b .0) (b .1)) (b .2)

@@ -7,6 +7,7 @@ use native.Mathlib.Nat.{mul-le-mul-left}
 use native.Mathlib.Numerals.{add-one}
 use native.Mathlib.Omega.{arith}
 use lib.ListN.{length}
+use Rattle.model.specs.Limits.{mostClassGrams, mostFanTime, mostFans, mostGrams, planRoom}
 use Rattle.model.specs.Sets.{Doses, sum, weight}
 use Rattle.model.specs.Orders.{Order}
 use Rattle.model.specs.Classes.{Classes, P, Row, Setting, W, classP, free, openFans}
@@ -14,7 +15,7 @@ use Rattle.model.specs.Intervals.{fansPresent, instantAt, settingOf}
 use Rattle.model.specs.Plans.{planRecords, slotsRead}
 use Rattle.model.specs.Layout.{classAt, classesOf, slotsOf}
 use Rattle.model.specs.Stands.{SlotsStand, Stands}
-use Rattle.model.specs.Answers.{ValidShares, planBytes, planRoom}
+use Rattle.model.specs.Answers.{ValidShares, planBytes}
 use Rattle.model.proofs.Sums.{sum-le, sum-scale}
 use Rattle.model.proofs.Sets.{weight-all, weight-le}
 use Rattle.model.proofs.Sequence.{few-classes}
@@ -43,8 +44,8 @@ module _ (o : Order) (fit : Fit o) (p : ℕ) (C : ℕ → Doses) where
   S = settingOf o
 
   -- W of any set of doses
-  pub grams-most : (A : Doses) → W S A ≤ 24000000
-  grams-most A = omega (arith, weight-most (S .doses) (S .grams) 1000000 A (fit .light), fit .few)
+  pub grams-most : (A : Doses) → W S A ≤ mostClassGrams
+  grams-most A = omega (arith, weight-most (S .doses) (S .grams) mostGrams A (fit .light), fit .few)
 
   -- the first intervals take no longer than up to their end
   lengths : (j : ℕ) → j ≤ S .intervals → sum j (S .len) ≤ instantAt o j
@@ -52,19 +53,19 @@ module _ (o : Order) (fit : Fit o) (p : ℕ) (C : ℕ → Doses) where
   lengths zero l = omega arith
   lengths (suc j) l = rw (← add-one j) (omega (arith, lengths j (omega arith), instants-rise o j l))
 
-  fans-open : (i j : ℕ) → openFans S (free S (fansPresent o) C i) (C i) j ≤ 8
+  fans-open : (i j : ℕ) → openFans S (free S (fansPresent o) C i) (C i) j ≤ mostFans
   unfolding openFans
   fans-open i j = omega (arith, free-most S (fansPresent o) C i j, fit .fans-most)
 
   -- P of any class: all fans for a week
-  pub time-most : (i : ℕ) → classP S (fansPresent o) C i ≤ 4838400
+  pub time-most : (i : ℕ) → classP S (fansPresent o) C i ≤ mostFanTime
   unfolding P
   time-most i =
       omega (
         arith,
-        sum-le (S .intervals) {f = λ j. S .len j * openFans S (free S (fansPresent o) C i) (C i) j} {g = λ j. 8 * S .len j}
+        sum-le (S .intervals) {f = λ j. S .len j * openFans S (free S (fansPresent o) C i) (C i) j} {g = λ j. mostFans * S .len j}
             (λ j l. omega (arith, mul-le-mul-left (S .len j) (fans-open i j))),
-        sum-scale (S .intervals) 8 (S .len),
+        sum-scale (S .intervals) mostFans (S .len),
         lengths (S .intervals) (omega arith),
         instants-week o fit (S .intervals),
       )

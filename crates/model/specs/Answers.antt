@@ -6,6 +6,7 @@ use mathlib.Core.List.{List, _++_}
 use Prim.Native.Nat.{ℕ, _+_, _*_, _≤_, _<_}
 use lib.Dec.{T, ltb}
 use lib.ListN.{length, drop}
+use Rattle.model.specs.Limits.{planRoom, week}
 use Rattle.model.specs.Sets.{Doses}
 use Rattle.model.specs.Records.{read, refused}
 use Rattle.model.specs.Orders.{Order, readOrder}
@@ -71,10 +72,6 @@ pub record Planned : Type 0 where
   pub classes : ℕ
   pub slots : ℕ
 
--- "plan buffer under 47,392 bytes (24 classes and 1,457 slots)"
-abbrev pub planRoom : ℕ
-planRoom = 47392
-
 -- the plan's bytes in front, and the rest as it was
 abbrev pub overwritten : List ℕ → List ℕ → List ℕ
 overwritten before plan = plan ++ drop (length plan) before
@@ -114,10 +111,6 @@ pub record Drawn : Type 0 where
 -- no point comes with a refusal
 abbrev pub noPoint : Answer → Drawn
 noPoint a = record { answer = a; point = record { amount = 0; state = shut } }
-
--- the last tick of a week
-abbrev pub week : ℕ
-week = 604800
 
 -- the point of dose d at tick t, in a plan that stands for o
 abbrev pub pointOf : Order → List ℕ → ℕ → ℕ → Drawn

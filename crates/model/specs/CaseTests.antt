@@ -5,6 +5,7 @@ use mathlib.Core.List.{List, [], _∷_}
 use Prim.Native.Nat.{ℕ, zero, suc, _-_, min}
 use lib.Dec.{T, eqb, leb}
 use lib.ListN.{length, getD}
+use Rattle.model.specs.Limits.{week}
 use Rattle.model.specs.Sets.{sum, Doses, weight}
 use Rattle.model.specs.Records.{Reading, read, refused, pick, numberAt, numberBytes, fieldsAt, blankAt, recordBytes, readFrom}
 use Rattle.model.specs.Orders.{Order, entryOf, fansIn, dosesIn, clashesAny, noClash, restOf, orderOf, readOrder}
@@ -15,7 +16,7 @@ use Rattle.model.specs.Lists.{gather, total}
 use Rattle.model.specs.Plans.{Class, Slot}
 use Rattle.model.specs.Layout.{cut, line, pieceSlot, laneSlots, intervalSlots, tableSlots, slotsOf, classesOf}
 use Rattle.model.specs.Line.{State, finished, shut, idle, dosing, unitsBefore, timeOf, drawn, fedAt, stateAt, Point, pointAt}
-use Rattle.model.specs.Answers.{Answer, refusal, done, aboveTop, tooFast, week}
+use Rattle.model.specs.Answers.{Answer, refusal, done, aboveTop, tooFast}
 use Rattle.model.specs.Cases.{Case, Drawing, listed, caseSets, slot, cases}
 
 -- ---- tests of all members

@@ -5,6 +5,7 @@ use mathlib.Core.List.{List, [], _∷_, _++_}
 use Prim.Native.Nat.{ℕ, _+_, _≤_, _<_}
 use lib.Dec.{eqb}
 use lib.ListN.{length, getD}
+use Rattle.model.specs.Limits.{planRoom}
 use Rattle.model.specs.Sets.{Doses, Sub}
 use Rattle.model.specs.Lists.{All}
 use Rattle.model.specs.Records.{fansKind, doseKind, fansParts, doseParts, recordBytes, read}
@@ -14,7 +15,7 @@ use Rattle.model.specs.Intervals.{settingOf, fansPresent}
 use Rattle.model.specs.Plans.{Class, Slot, planOf, recordsBytes}
 use Rattle.model.specs.Layout.{classesOf}
 use Rattle.model.specs.Line.{State, finished, shut, idle, dosing, Point}
-use Rattle.model.specs.Answers.{Answer, refusal, done, FirstClass, Accepts, Planned, planRoom, overwritten, Plans, Judges, Draws, Moves}
+use Rattle.model.specs.Answers.{Answer, refusal, done, FirstClass, Accepts, Planned, overwritten, Plans, Judges, Draws, Moves}
 
 -- a dose's point at a tick
 pub record Drawing : Type 0 where

@@ -1,3 +1,4 @@
+pub mod Limits
 pub mod Sets
 pub mod Lists
 pub mod Records

@@ -4,6 +4,7 @@ use mathlib.Core.List.{List, [], _∷_, _++_}
 use Prim.Native.Nat.{ℕ, suc, _+_, _%_}
 use lib.Dec.{eqb, leb}
 use lib.ListN.{length, getD}
+use Rattle.model.specs.Limits.{lastRelease, mostBay, mostDoses, mostFans, mostGrams, mostTop, orderRoom, week}
 use Rattle.model.specs.Records.{pick, within, Reading, read, refused, andThen, recordSize, fansKind, doseKind, fansParts, doseParts, blankAt, fieldOf, readAll}
 
 -- the fields of an F record
@@ -51,12 +52,12 @@ doseOf r = record { bay = fieldOf doseParts r 1; release = fieldOf doseParts r 2
 
 -- "number of fans, 1 to 8; top grams, top seconds, each 1 to 1,000,000"
 abbrev pub fansFit : Fans → Bool
-fansFit f = within 1 8 (f .fans) && within 1 1000000 (f .topGrams) && within 1 1000000 (f .topSeconds)
+fansFit f = within 1 mostFans (f .fans) && within 1 mostTop (f .topGrams) && within 1 mostTop (f .topSeconds)
 
 -- "bay, 1 to 999; release, 0 to 604,799; deadline, release+1 to 604,800; grams, 1 to 1,000,000"
 abbrev pub doseFits : Dose → Bool
 doseFits d =
-    within 1 999 (d .bay) && leb (d .release) 604799 && within (d .release + 1) 604800 (d .deadline) && within 1 1000000 (d .grams)
+    within 1 mostBay (d .bay) && leb (d .release) lastRelease && within (d .release + 1) week (d .deadline) && within 1 mostGrams (d .grams)
 
 -- a record of known kind: 4 "a byte that must be zero isn't", then 5 "a field out of range"
 abbrev pub checked : Bool → Bool → Entry → ℕ → Reading Entry
@@ -118,9 +119,9 @@ restOf o = 0
 unfoldable pub orderOf : List Entry → Reading Order
 orderOf es =
     pick (eqb (length (fansIn es)) 1)
-    (pick (leb (length (dosesIn es)) 24) (andThen (noClash (restOf (orderIn es)) [] 0 es) (λ ds. read (orderWith (fansIn es) ds))) (refused 7 0))
+    (pick (leb (length (dosesIn es)) mostDoses) (andThen (noClash (restOf (orderIn es)) [] 0 es) (λ ds. read (orderWith (fansIn es) ds))) (refused 7 0))
     (refused 6 0)
 
 -- 2 "order length no multiple of 32, or over 1,600", "then record by record 3, 4, 5 in that order, then 6, 7, 8"
 unfoldable pub readOrder : List ℕ → Reading Order
-readOrder bytes = pick (eqb (length bytes % recordSize) 0 && leb (length bytes) 1600) (andThen (readAll entryOf bytes) orderOf) (refused 2 0)
+readOrder bytes = pick (eqb (length bytes % recordSize) 0 && leb (length bytes) orderRoom) (andThen (readAll entryOf bytes) orderOf) (refused 2 0)

@@ -6,6 +6,7 @@ use native.Mathlib.Omega.{arith}
 use native.Mathlib.Nat.{add-zero, zero-add}
 use lib.ListN.{length, getD, set, drop, drop-of-length-le}
 use lib.Seq.{drop-cons}
+use Rattle.model.specs.Limits.{mostDoses}
 use Rattle.order.specs.Held.{run, column}
 
 -- ---- a list as a run of its members
@@ -40,9 +41,9 @@ column-more f zero l a h = absurd (let z : ⊥ = omega arith in z)
 column-more f (suc n) [] a h = refl
 column-more f (suc n) (b ∷ l) a h = ap (λ (t : List ℕ). f b ∷ t) (column-more f n l a (omega arith))
 
-pub column-set : {A : Type 0} {a : List ℕ} {n : ℕ} (f : A → ℕ) (l : List A) (d : A) → a ≡ column f 24 l → n ≡ length l → length l < 24
-    → set a n (f d) ≡ column f 24 (l ++ d ∷ [])
-column-set f l d p q h = rw (p, q) (column-more f 24 l d h)
+pub column-set : {A : Type 0} {a : List ℕ} {n : ℕ} (f : A → ℕ) (l : List A) (d : A) → a ≡ column f mostDoses l → n ≡ length l → length l < mostDoses
+    → set a n (f d) ≡ column f mostDoses (l ++ d ∷ [])
+column-set f l d p q h = rw (p, q) (column-more f mostDoses l d h)
 
 pub column-at : {A : Type 0} (f : A → ℕ) (z : A) → f z ≡ 0 → (n : ℕ) (l : List A) (k : ℕ) → length l ≤ n → getD (column f n l) k 0 ≡ f (getD l k z)
 unfolding column

@@ -4,6 +4,7 @@ use Prim.Native.Nat.{ℕ, _<_, _≤_}
 use native.Mathlib.Nat.{zero-add}
 use native.Mathlib.Omega.{arith}
 use lib.ListN.{length}
+use Rattle.model.specs.Limits.{mostDoses}
 use Rattle.model.specs.Orders.{noDose, doseAt}
 use Rattle.model.proofs.Orders.{Fit}
 use Rattle.order.specs.declared.Order.{Order}
@@ -32,5 +33,5 @@ module _ (o : Order) where
   dose-is k h = sym (run-at (doseHeld o) 0 (o .count) k noDose h ∙ ap (doseHeld o) (zero-add k))
 
   -- an order that fits has few doses
-  pub few-doses : Fit (asOrder o) → o .count ≤ 24
+  pub few-doses : Fit (asOrder o) → o .count ≤ mostDoses
   few-doses fit = omega (arith, fit .few, doses-is)

@@ -8,6 +8,7 @@ use native.Mathlib.Nat.{zero-add}
 use borrow.Author.Tests.{leb-true, eqb-true, eq-eqb, ne-eqb}
 use lib.Dec.{eqb, leb, ltb, eqb·suc-zero}
 use lib.ListN.{length, getD, length-append}
+use Rattle.model.specs.Limits.{mostDoses}
 use Rattle.model.specs.Records.{pick, Reading, read, refused, andThen}
 use Rattle.model.specs.Orders.{fansEntry, doseEntry, noDose, fansIn, dosesIn, noClash, orderWith, orderIn, restOf, orderOf, readOrder}
 use Rattle.model.specs.Orders as orders
@@ -29,10 +30,10 @@ use Rattle.order.proofs.Walks.{Each, reads, refuses, Any, each-read}
 
 pub record Holds (o : Order) (ds : List orders.Dose) : Type 0 where
   pub count : o .count ≡ length ds
-  pub bay : o .bay ≡ column (λ (d : orders.Dose). d .bay) 24 ds
-  pub release : o .release ≡ column (λ (d : orders.Dose). d .release) 24 ds
-  pub deadline : o .deadline ≡ column (λ (d : orders.Dose). d .deadline) 24 ds
-  pub grams : o .grams ≡ column (λ (d : orders.Dose). d .grams) 24 ds
+  pub bay : o .bay ≡ column (λ (d : orders.Dose). d .bay) mostDoses ds
+  pub release : o .release ≡ column (λ (d : orders.Dose). d .release) mostDoses ds
+  pub deadline : o .deadline ≡ column (λ (d : orders.Dose). d .deadline) mostDoses ds
+  pub grams : o .grams ≡ column (λ (d : orders.Dose). d .grams) mostDoses ds
 
 pub holds-held : (o : orders.Order) → Holds (heldOrder o) (o .doses)
 unfolding heldOrder
@@ -42,31 +43,31 @@ same-dose : {b r e g : ℕ} (d : orders.Dose) → b ≡ d .bay → r ≡ d .rele
     → record { bay = b; release = r; deadline = e; grams = g } ≡ d
 same-dose d p q r s = rw (p, q, r, s)
 
-pub dose-at : (o : Order) (ds : List orders.Dose) (k : ℕ) → Holds o ds → length ds ≤ 24 → doseHeld o k ≡ getD ds k noDose
+pub dose-at : (o : Order) (ds : List orders.Dose) (k : ℕ) → Holds o ds → length ds ≤ mostDoses → doseHeld o k ≡ getD ds k noDose
 dose-at o ds k h l =
     same-dose (getD ds k noDose)
     (held-at (λ (d : orders.Dose). d .bay) refl (h .bay))
     (held-at (λ (d : orders.Dose). d .release) refl (h .release))
     (held-at (λ (d : orders.Dose). d .deadline) refl (h .deadline))
     (held-at (λ (d : orders.Dose). d .grams) refl (h .grams)) where
-      held-at : {a : List ℕ} (f : orders.Dose → ℕ) → f noDose ≡ 0 → a ≡ column f 24 ds → getD a k 0 ≡ f (getD ds k noDose)
-      held-at f z e = ap (λ (a : List ℕ). getD a k 0) e ∙ column-at f noDose z 24 ds k l
+      held-at : {a : List ℕ} (f : orders.Dose → ℕ) → f noDose ≡ 0 → a ≡ column f mostDoses ds → getD a k 0 ≡ f (getD ds k noDose)
+      held-at f z e = ap (λ (a : List ℕ). getD a k 0) e ∙ column-at f noDose z mostDoses ds k l
 
-pub doses-held : (o : Order) (ds : List orders.Dose) → Holds o ds → length ds ≤ 24 → dosesHeld o ≡ ds
+pub doses-held : (o : Order) (ds : List orders.Dose) → Holds o ds → length ds ≤ mostDoses → dosesHeld o ≡ ds
 unfolding dosesFrom
 doses-held o ds h l = ap (dosesFrom o 0) (h .count) ∙ run-all (doseHeld o) ds noDose (λ k. dose-at o ds k h l)
 
-pub as-held : (o : orders.Order) → length (o .doses) ≤ 24 → asOrder (heldOrder o) ≡ o
+pub as-held : (o : orders.Order) → length (o .doses) ≤ mostDoses → asOrder (heldOrder o) ≡ o
 unfolding asOrder heldOrder
 as-held o few =
     ap (λ (l : List orders.Dose). record { fans = o .fans; topGrams = o .topGrams; topSeconds = o .topSeconds; doses = l })
     (doses-held (heldOrder o) (o .doses) (holds-held o) few)
 
-holds-more : (o : Order) (ds : List orders.Dose) (d : orders.Dose) → Holds o ds → length ds < 24 → Holds (withDose o (heldDose d)) (ds ++ d ∷ [])
+holds-more : (o : Order) (ds : List orders.Dose) (d : orders.Dose) → Holds o ds → length ds < mostDoses → Holds (withDose o (heldDose d)) (ds ++ d ∷ [])
 unfolding withDose
 holds-more o ds d h l =
-    picked (λ (n : Order). Holds n (ds ++ d ∷ [])) (leb 24 (o .count)) _ _
-    (λ e. let q : 24 ≤ o .count = leb-true 24 (o .count) e in absurd (let z : ⊥ = omega (arith, h .count) in z))
+    picked (λ (n : Order). Holds n (ds ++ d ∷ [])) (leb mostDoses (o .count)) _ _
+    (λ e. let q : mostDoses ≤ o .count = leb-true mostDoses (o .count) e in absurd (let z : ⊥ = omega (arith, h .count) in z))
     (λ e.
     record {
       count = omega (arith, h .count, length-append ds (d ∷ []));
@@ -99,7 +100,7 @@ last x (f ∷ fs) = last (heldFans f) fs
 
 head-kept : (o : Order) (d : Dose) → headOf (withDose o d) ≡ headOf o
 unfolding withDose
-head-kept o d = picked (λ (n : Order). headOf n ≡ headOf o) (leb 24 (o .count)) _ _ (λ e. refl) (λ e. refl)
+head-kept o d = picked (λ (n : Order). headOf n ≡ headOf o) (leb mostDoses (o .count)) _ _ (λ e. refl) (λ e. refl)
 
 head-add : (es : List orders.Entry) (s : Gathered) (k : ℕ) → headOf (adding s k es .order) ≡ last (headOf (s .order)) (fansIn es)
 unfolding last adding fansIn withFans withDoseAt
@@ -112,7 +113,7 @@ head-add (doseEntry d ∷ es) s k =
 
 -- an array of record indexes
 abbrev indexes : List ℕ → List ℕ
-indexes = column (λ (k : ℕ). k) 24
+indexes = column (λ (k : ℕ). k) mostDoses
 
 -- the doses and the place of each are gathered
 record HoldsAt (s : Gathered) (ds : List orders.Dose) (ps : List ℕ) : Type 0 where
@@ -120,16 +121,16 @@ record HoldsAt (s : Gathered) (ds : List orders.Dose) (ps : List ℕ) : Type 0 w
   places : s .places ≡ indexes ps
   each : length ps ≡ length ds
 
-place-more : (places : List ℕ) (count k : ℕ) (ps : List ℕ) → places ≡ indexes ps → count ≡ length ps → length ps < 24
+place-more : (places : List ℕ) (count k : ℕ) (ps : List ℕ) → places ≡ indexes ps → count ≡ length ps → length ps < mostDoses
     → withPlace places count k ≡ indexes (ps ++ k ∷ [])
 unfolding withPlace
 place-more places count k ps e n l =
-    picked (λ (p : List ℕ). p ≡ indexes (ps ++ k ∷ [])) (leb 24 count) _ _
-    (λ t. let q : 24 ≤ count = leb-true 24 count t in absurd (let z : ⊥ = omega arith in z))
+    picked (λ (p : List ℕ). p ≡ indexes (ps ++ k ∷ [])) (leb mostDoses count) _ _
+    (λ t. let q : mostDoses ≤ count = leb-true mostDoses count t in absurd (let z : ⊥ = omega arith in z))
     (λ t. column-set (λ (k : ℕ). k) ps k e n l)
 
 gathers : (es : List orders.Entry) (s : Gathered) (k : ℕ) (ds : List orders.Dose) (ps : List ℕ) → HoldsAt s ds ps
-    → length ds + length (dosesIn es) ≤ 24 → HoldsAt (adding s k es) (ds ++ dosesIn es) (ps ++ placesIn k es)
+    → length ds + length (dosesIn es) ≤ mostDoses → HoldsAt (adding s k es) (ds ++ dosesIn es) (ps ++ placesIn k es)
 unfolding placesIn adding dosesIn withFans withDoseAt
 gathers [] s k ds ps h l = rw (append-nil ds, append-nil ps) h
 gathers (fansEntry f ∷ es) s k ds ps h l =
@@ -142,7 +143,7 @@ gathers (fansEntry f ∷ es) s k ds ps h l =
     })
     l
 gathers (doseEntry d ∷ es) s k ds ps h l =
-    let few : length ds < 24 = omega arith in
+    let few : length ds < mostDoses = omega arith in
     rw (append-assoc ds (d ∷ []) (dosesIn es), append-assoc ps (k ∷ []) (placesIn (suc k) es)) at
     (gathers es (withDoseAt s (heldDose d) k) (suc k) (ds ++ d ∷ []) (ps ++ k ∷ [])
     (record {
@@ -177,14 +178,14 @@ same-order o f ds e h =
 abbrev done : Order → code.Reading
 done o = record { number = 0; place = 0; order = o }
 
-checks : {h n : ℕ} (f d : ℕ) (a : code.Reading) (x : Reading orders.Order) → h ≡ f → n ≡ d → (f ≡ 1 → d ≤ 24 → a ≡ heldReading x)
-    → pick (eqb h 1) (pick (leb n 24) a (refusedReading 7 0)) (refusedReading 6 0)
-    ≡ heldReading (pick (eqb f 1) (pick (leb d 24) x (refused 7 0)) (refused 6 0))
+checks : {h n : ℕ} (f d : ℕ) (a : code.Reading) (x : Reading orders.Order) → h ≡ f → n ≡ d → (f ≡ 1 → d ≤ mostDoses → a ≡ heldReading x)
+    → pick (eqb h 1) (pick (leb n mostDoses) a (refusedReading 7 0)) (refusedReading 6 0)
+    ≡ heldReading (pick (eqb f 1) (pick (leb d mostDoses) x (refused 7 0)) (refused 6 0))
 unfolding heldReading
-checks f d a x p q k = rw (p, q) (go (eqb f 1) (leb d 24) refl refl) where
-  go : (t u : Bool) → eqb f 1 ≡ t → leb d 24 ≡ u
+checks f d a x p q k = rw (p, q) (go (eqb f 1) (leb d mostDoses) refl refl) where
+  go : (t u : Bool) → eqb f 1 ≡ t → leb d mostDoses ≡ u
       → pick t (pick u a (refusedReading 7 0)) (refusedReading 6 0) ≡ heldReading (pick t (pick u x (refused 7 0)) (refused 6 0))
-  go true true e g = k (eqb-true f 1 e) (leb-true d 24 g)
+  go true true e g = k (eqb-true f 1 e) (leb-true d mostDoses g)
   go true false e g = refl
   go false u e g = refl
 
@@ -205,7 +206,7 @@ clashed-held s fs ds ps k e n p =
 
 -- one F and at most 24 doses: what was gathered holds the order of the records, so that its rest, its count, its first clash and
 -- the place kept for that dose are those of the records
-settled-few : (es : List orders.Entry) → length (fansIn es) ≡ 1 → length (dosesIn es) ≤ 24
+settled-few : (es : List orders.Entry) → length (fansIn es) ≡ 1 → length (dosesIn es) ≤ mostDoses
     → (let t = adding noRecords 0 es in clashed t (firstClash (restOf (asOrder (t .order))) (t .order)))
     ≡ heldReading (andThen (noClash (restOf (orderIn es)) [] 0 es) (λ ds. read (orderWith (fansIn es) ds)))
 unfolding noRecords
@@ -219,7 +220,7 @@ settled-few es one few =
     let again = ap (λ (fs : List orders.Fans). orderWith fs ds) (sym p) in
     let rest = restOf (orderIn es) in
     let k = firstOf (clashesEarlier rest (t .order)) 0 (length ds) in
-    let place = ap (λ (l : List ℕ). getD l k 0) (h .places) ∙ column-at (λ (k : ℕ). k) 0 refl 24 ps k (omega (arith, h .each)) in
+    let place = ap (λ (l : List ℕ). getD l k 0) (h .places) ∙ column-at (λ (k : ℕ). k) 0 refl mostDoses ps k (omega (arith, h .each)) in
     ap (λ (o : orders.Order). clashed t (firstClash (restOf o) (t .order))) (ap asOrder own ∙ as-held (orderWith (f ∷ []) ds) few ∙ again)
     ∙ ap (λ (n : ℕ). clashed t (firstOf (clashesEarlier rest (t .order)) 0 n)) (h .doses .count)
     ∙ clashed-held t (fansIn es) ds ps k (own ∙ ap heldOrder again) (h .doses .count) place
@@ -236,12 +237,12 @@ settles es =
 
 -- ---- the answer
 
-as-reading : (x : Reading orders.Order) → Each (λ (o : orders.Order). length (o .doses) ≤ 24) x → asReading (heldReading x) ≡ x
+as-reading : (x : Reading orders.Order) → Each (λ (o : orders.Order). length (o .doses) ≤ mostDoses) x → asReading (heldReading x) ≡ x
 unfolding heldReading
 as-reading (read o) (reads few) = ap read (as-held o few)
 as-reading (refused n p) (refuses {number = m}) = sym (at-off (λ (x : Reading orders.Order). x) _ _ (sym (eqb·suc-zero m)) refl)
 
-few-held : (x : Reading orders.Order) → Each (λ (o : orders.Order). length (o .doses) ≤ 24) x → heldReading x .order .count ≤ 24
+few-held : (x : Reading orders.Order) → Each (λ (o : orders.Order). length (o .doses) ≤ mostDoses) x → heldReading x .order .count ≤ mostDoses
 unfolding heldReading heldOrder
 few-held (read o) (reads few) = few
 few-held (refused n p) refuses = omega arith

@@ -8,6 +8,7 @@ use native.Mathlib.Numerals.{add-one}
 use borrow.Author.Tests.{leb-true, leb-false}
 use lib.Dec.{eqb, leb}
 use lib.ListN.{length, getD, length-append}
+use Rattle.model.specs.Limits.{mostDoses, orderRoom}
 use Rattle.model.specs.Records.{pick, Reading, read, refused, andThen, blankAt, fansParts, doseParts, recordAt, readFrom}
 use Rattle.model.specs.Orders.{fansEntry, doseEntry, fansOf, doseOf, fansFit, doseFits, checked, entryOf, fansIn, dosesIn, noClash, clashesAny, orderWith, orderIn, restOf, orderOf, readOrder}
 use Rattle.model.specs.Orders as orders
@@ -74,29 +75,29 @@ with-doses : (fs : List orders.Fans) (ds : List orders.Dose) → orderWith fs ds
 with-doses [] ds = refl
 with-doses (f ∷ fs) ds = refl
 
-each-order : (es : List orders.Entry) → Each (λ (o : orders.Order). length (o .doses) ≤ 24) (orderOf es)
+each-order : (es : List orders.Entry) → Each (λ (o : orders.Order). length (o .doses) ≤ mostDoses) (orderOf es)
 unfolding orderOf
 each-order es =
     each-pick (eqb (length (fansIn es)) 1)
-    (picked (Each (λ (o : orders.Order). length (o .doses) ≤ 24)) (leb (length (dosesIn es)) 24) _ (refused 7 0)
+    (picked (Each (λ (o : orders.Order). length (o .doses) ≤ mostDoses)) (leb (length (dosesIn es)) mostDoses) _ (refused 7 0)
     (λ e.
-    let few : length (dosesIn es) ≤ 24 = leb-true (length (dosesIn es)) 24 e in
-    each-then _ (each-clash (restOf (orderIn es)) es [] 0) (λ l q. let n : length l ≤ 24 = omega arith in reads {a = orderWith (fansIn es) l} (rw (with-doses (fansIn es) l) n)))
+    let few : length (dosesIn es) ≤ mostDoses = leb-true (length (dosesIn es)) mostDoses e in
+    each-then _ (each-clash (restOf (orderIn es)) es [] 0) (λ l q. let n : length l ≤ mostDoses = omega arith in reads {a = orderWith (fansIn es) l} (rw (with-doses (fansIn es) l) n)))
     (λ e. refuses))
     refuses
 
 -- an order that was read has at most 24 doses
-pub each-read : (bytes : List ℕ) → Each (λ (o : orders.Order). length (o .doses) ≤ 24) (readOrder bytes)
+pub each-read : (bytes : List ℕ) → Each (λ (o : orders.Order). length (o .doses) ≤ mostDoses) (readOrder bytes)
 unfolding readOrder
-each-read bytes = each-pick (eqb (length bytes % 32) 0 && leb (length bytes) 1600) (each-then orderOf (each-from bytes 0 _) (λ es p. each-order es)) refuses
+each-read bytes = each-pick (eqb (length bytes % 32) 0 && leb (length bytes) orderRoom) (each-then orderOf (each-from bytes 0 _) (λ es p. each-order es)) refuses
 
 -- ---- one record
 
-with-few : (o : Order) (d : Dose) → o .count ≤ 24 → withDose o d .count ≤ 24
+with-few : (o : Order) (d : Dose) → o .count ≤ mostDoses → withDose o d .count ≤ mostDoses
 unfolding withDose
 with-few o d h =
-    picked (λ (n : Order). n .count ≤ 24) (leb 24 (o .count)) _ _ (λ e. h)
-    (λ e. let q : o .count < 24 = leb-false 24 (o .count) e in omega arith)
+    picked (λ (n : Order). n .count ≤ mostDoses) (leb mostDoses (o .count)) _ _ (λ e. h)
+    (λ e. let q : o .count < mostDoses = leb-false mostDoses (o .count) e in omega arith)
 
 -- a record adds at most one to each count
 pub counts : (s : Gathered) (k : ℕ) (e : Entry) → (taken s k e .gathered .heads ≤ s .heads + 1) × (taken s k e .gathered .doses ≤ s .doses + 1)
@@ -106,13 +107,13 @@ counts s k (is.Dose d) = (omega arith, omega arith)
 counts s k (is.Refused x) = (omega arith, omega arith)
 
 -- no number of records fills the order past its room
-few-added : (es : List orders.Entry) (s : Gathered) (k : ℕ) → s .order .count ≤ 24 → adding s k es .order .count ≤ 24
+few-added : (es : List orders.Entry) (s : Gathered) (k : ℕ) → s .order .count ≤ mostDoses → adding s k es .order .count ≤ mostDoses
 unfolding adding withFans withDoseAt
 few-added [] s k h = h
 few-added (fansEntry f ∷ es) s k h = few-added es (withFans s (heldFans f)) (suc k) h
 few-added (doseEntry d ∷ es) s k h = few-added es (withDoseAt s (heldDose d) k) (suc k) (with-few (s .order) (heldDose d) h)
 
-pub few-walked : {w : Walked} (x : Reading (List orders.Entry)) → w ≡ walkedFrom x 0 noRecords → w .gathered .order .count ≤ 24
+pub few-walked : {w : Walked} (x : Reading (List orders.Entry)) → w ≡ walkedFrom x 0 noRecords → w .gathered .order .count ≤ mostDoses
 unfolding walkedFrom noRecords heldOrder
 few-walked (read es) e = rw e (few-added es noRecords 0 (omega arith))
 few-walked (refused n p) e = rw e (omega arith)

@@ -4,6 +4,7 @@ use mathlib.Core.List.{List, [], _∷_}
 use Prim.Native.Nat.{ℕ, zero, suc, _+_}
 use lib.Dec.{eqb, leb, ltb}
 use lib.ListN.{getD, set}
+use Rattle.model.specs.Limits.{mostDoses}
 use Rattle.model.specs.Records.{pick, read, refused, blankAt, fansParts, doseParts}
 use Rattle.model.specs.Records as records
 use Rattle.model.specs.Orders.{fansEntry, doseEntry, fansOf, doseOf, fansFit, doseFits, checked, clash, restOf}
@@ -33,7 +34,7 @@ doseEntered r k = heldEntry (checked (blankAt doseParts r 0) (doseFits (doseOf r
 -- ---- one record more
 
 unfoldable pub withDose : Order → Dose → Order
-withDose o d = pick (leb 24 (o .count)) o
+withDose o d = pick (leb mostDoses (o .count)) o
     (record {
       fans = o .fans;
       «top_grams» = o .«top_grams»;
@@ -47,10 +48,10 @@ withDose o d = pick (leb 24 (o .count)) o
 
 -- the record indexes of so many doses, and index k for one more
 unfoldable pub withPlace : List ℕ → ℕ → ℕ → List ℕ
-withPlace places count k = pick (leb 24 count) places (set places count k)
+withPlace places count k = pick (leb mostDoses count) places (set places count k)
 
 unfoldable pub noRecords : Gathered
-noRecords = record { heads = 0; doses = 0; places = column (λ (k : ℕ). k) 24 []; order = noOrder }
+noRecords = record { heads = 0; doses = 0; places = column (λ (k : ℕ). k) mostDoses []; order = noOrder }
 
 unfoldable pub withFans : Gathered → Fans → Gathered
 withFans s f = record {
@@ -137,5 +138,5 @@ clashed s k = pick (ltb k (s .order .count)) (refusedReading 8 (getD (s .places)
 unfoldable pub settled : Gathered → Reading
 settled s =
     pick (eqb (s .heads) 1)
-    (pick (leb (s .doses) 24) (clashed s (firstClash (restOf (asOrder (s .order))) (s .order))) (refusedReading 7 0))
+    (pick (leb (s .doses) mostDoses) (clashed s (firstClash (restOf (asOrder (s .order))) (s .order))) (refusedReading 7 0))
     (refusedReading 6 0)

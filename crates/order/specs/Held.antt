@@ -4,6 +4,7 @@ use mathlib.Core.List.{List, [], _∷_}
 use Prim.Native.Nat.{ℕ, zero, suc, _≤_}
 use lib.Dec.{eqb}
 use lib.ListN.{length, getD}
+use Rattle.model.specs.Limits.{mostDoses}
 use Rattle.model.specs.Records.{pick, read, refused}
 use Rattle.model.specs.Records as records
 use Rattle.model.specs.Orders.{fansEntry, doseEntry, readOrder}
@@ -59,10 +60,10 @@ heldOrder o = record {
   «top_grams» = o .topGrams;
   «top_seconds» = o .topSeconds;
   count = length (o .doses);
-  bay = column (λ (d : orders.Dose). d .bay) 24 (o .doses);
-  release = column (λ (d : orders.Dose). d .release) 24 (o .doses);
-  deadline = column (λ (d : orders.Dose). d .deadline) 24 (o .doses);
-  grams = column (λ (d : orders.Dose). d .grams) 24 (o .doses);
+  bay = column (λ (d : orders.Dose). d .bay) mostDoses (o .doses);
+  release = column (λ (d : orders.Dose). d .release) mostDoses (o .doses);
+  deadline = column (λ (d : orders.Dose). d .deadline) mostDoses (o .doses);
+  grams = column (λ (d : orders.Dose). d .grams) mostDoses (o .doses);
 }
 
 -- zeros
@@ -84,4 +85,4 @@ asReading r = pick (eqb (r .number) 0) (read (asOrder (r .order))) (refused (r .
 pub record ReadFrom (bytes : List ℕ) (r : Reading) : Type 0 where
   pub whole : r ≡ heldReading (readOrder bytes)
   pub says : asReading r ≡ readOrder bytes
-  pub few : r .order .count ≤ 24
+  pub few : r .order .count ≤ mostDoses

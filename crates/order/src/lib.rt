@@ -4,9 +4,12 @@ mod record; // record.rt: one record
 use record::record_at;
 use records::Dose;
 use records::Fans;
+use steps::limits::MOST_DOSES;
+use steps::limits::ORDER_ROOM;
 ghost use mathlib.Core.Path.{_≡_};
 ghost use Prim.Native.Nat.{_+_, _<_, _≤_};
 ghost use lib.ListN.{length};
+ghost use Rattle.model.specs.Limits.{mostDoses, mostRecords, orderRoom};
 ghost use Rattle.model.specs.Records.{readAll};
 ghost use Rattle.model.specs.Orders.{entryOf, clash, restOf};
 ghost use Rattle.records.specs.Held.{asDose};
@@ -33,10 +36,10 @@ pub struct Order {
     pub top_grams: u32,
     pub top_seconds: u32,
     pub count: usize,
-    pub bay: [u32; 24],
-    pub release: [u32; 24],
-    pub deadline: [u32; 24],
-    pub grams: [u32; 24],
+    pub bay: [u32; MOST_DOSES],
+    pub release: [u32; MOST_DOSES],
+    pub deadline: [u32; MOST_DOSES],
+    pub grams: [u32; MOST_DOSES],
 }
 
 // The order with number 0; or the refusal's number and place, and an order of zeros.
@@ -51,7 +54,7 @@ pub struct Reading {
 struct Gathered {
     heads: usize,
     doses: usize,
-    places: [u8; 24],
+    places: [u8; MOST_DOSES],
     order: Order,
 }
 
@@ -70,10 +73,10 @@ fn no_order() -> Order
         top_grams: 0,
         top_seconds: 0,
         count: 0,
-        bay: [0; 24],
-        release: [0; 24],
-        deadline: [0; 24],
-        grams: [0; 24],
+        bay: [0; MOST_DOSES],
+        release: [0; MOST_DOSES],
+        deadline: [0; MOST_DOSES],
+        grams: [0; MOST_DOSES],
     }
 }
 
@@ -82,7 +85,7 @@ fn with_dose(o: Order, d: Dose) -> Order
     ensures { λ r. ⌜ r ≡ withDose o d ⌝ }
 {
     let k = o.count;
-    if 24 <= k {
+    if MOST_DOSES <= k {
         return o;
     }
     let mut n = o;
@@ -95,11 +98,11 @@ fn with_dose(o: Order, d: Dose) -> Order
 }
 
 // The record indexes of the doses with one more, where there is room for it.
-fn with_place(places: [u8; 24], count: usize, k: usize) -> [u8; 24]
-    requires { ⌜ k < 50 ⌝ }
+fn with_place(places: [u8; MOST_DOSES], count: usize, k: usize) -> [u8; MOST_DOSES]
+    requires { ⌜ k < mostRecords ⌝ }
     ensures { λ r. ⌜ r ≡ withPlace places count k ⌝ }
 {
-    if 24 <= count {
+    if MOST_DOSES <= count {
         return places;
     }
     let mut n = places;
@@ -114,13 +117,13 @@ fn no_records() -> Gathered
     Gathered {
         heads: 0,
         doses: 0,
-        places: [0; 24],
+        places: [0; MOST_DOSES],
         order: o,
     }
 }
 
 fn add_fans(s: Gathered, f: Fans) -> Gathered
-    requires { ⌜ s .heads < 50 ⌝ }
+    requires { ⌜ s .heads < mostRecords ⌝ }
     ensures { λ r. ⌜ r ≡ withFans s f ⌝ }
 {
     let mut o = s.order;
@@ -137,7 +140,7 @@ fn add_fans(s: Gathered, f: Fans) -> Gathered
 }
 
 fn add_dose(s: Gathered, d: Dose, k: usize) -> Gathered
-    requires { ⌜ (s .doses < 50) × (k < 50) ⌝ }
+    requires { ⌜ (s .doses < mostRecords) × (k < mostRecords) ⌝ }
     ensures { λ r. ⌜ r ≡ withDoseAt s d k ⌝ }
 {
     let o = s.order;
@@ -172,7 +175,7 @@ fn refused_walk(e: Entry) -> Walked
 }
 
 fn add_other(s: Gathered, e: Entry) -> Walked
-    requires { ⌜ s .heads < 50 ⌝ }
+    requires { ⌜ s .heads < mostRecords ⌝ }
     ensures { λ w. ⌜ w ≡ takenOther s e ⌝ }
 {
     let Entry::Fans(f) = e else {
@@ -188,7 +191,7 @@ fn add_other(s: Gathered, e: Entry) -> Walked
 
 // What was gathered and record k, read from its 32 bytes; or the record's refusal.
 fn add_record(s: Gathered, r: &[u8], k: usize) -> Walked
-    requires { ⌜ (length (now r) ≡ 32) × (s .doses < 50) × (s .heads < 50) × (k < 50) ⌝ }
+    requires { ⌜ (length (now r) ≡ 32) × (s .doses < mostRecords) × (s .heads < mostRecords) × (k < mostRecords) ⌝ }
     ensures { λ w. ⌜ w ≡ taken s k (heldEntry (entryOf (now (r .entry)) k)) ⌝ }
 {
     let e = record_at(r, k);
@@ -205,7 +208,7 @@ fn add_record(s: Gathered, r: &[u8], k: usize) -> Walked
 
 // All records, one after the other, up to the first that is refused.
 fn walk(bytes: &[u8]) -> Walked
-    requires { ⌜ length (now bytes) ≤ 1600 ⌝ }
+    requires { ⌜ length (now bytes) ≤ orderRoom ⌝ }
     ensures { λ w. ⌜ w ≡ walkedFrom (readAll entryOf (now (bytes .entry))) 0 noRecords ⌝ }
 {
     let n = bytes.len() / 32;
@@ -248,7 +251,7 @@ fn from_byte(x: u8) -> usize
 
 // Dose k of an order.
 fn dose_at(o: Order, k: usize) -> Dose
-    requires { ⌜ k < 24 ⌝ }
+    requires { ⌜ k < mostDoses ⌝ }
     ensures { λ d. ⌜ asDose d ≡ doseHeld o k ⌝ }
 {
     Dose {
@@ -288,7 +291,7 @@ fn dose_clash(rest: u32, x: Dose, y: Dose) -> bool
 
 // The first dose before dose k that clashes with it; k where none does.
 fn earlier_clash(rest: u32, o: Order, k: usize) -> usize
-    requires { ⌜ k < 24 ⌝ }
+    requires { ⌜ k < mostDoses ⌝ }
     ensures { λ j. ⌜ j ≡ earlierClash rest o k ⌝ }
 {
     let d = dose_at(o, k);
@@ -305,7 +308,7 @@ fn earlier_clash(rest: u32, o: Order, k: usize) -> usize
 
 // The first dose that clashes with an earlier one; the count where none does.
 fn first_clash(rest: u32, o: Order) -> usize
-    requires { ⌜ o .count ≤ 24 ⌝ }
+    requires { ⌜ o .count ≤ mostDoses ⌝ }
     ensures { λ k. ⌜ k ≡ firstClash rest o ⌝ }
 {
     let n = o.count;
@@ -322,13 +325,13 @@ fn first_clash(rest: u32, o: Order) -> usize
 
 // "then 6, 7, 8"
 fn settle(s: Gathered) -> Reading
-    requires { ⌜ s .order .count ≤ 24 ⌝ }
+    requires { ⌜ s .order .count ≤ mostDoses ⌝ }
     ensures { λ r. ⌜ r ≡ settled s ⌝ }
 {
     if s.heads != 1 {
         return refuse(6, 0);
     }
-    if 24 < s.doses {
+    if MOST_DOSES < s.doses {
         return refuse(7, 0);
     }
     let o = s.order;
@@ -352,7 +355,7 @@ pub fn read_order(bytes: &[u8]) -> Reading
     if bytes.len() % 32 != 0 {
         return refuse(2, 0);
     }
-    if 1600 < bytes.len() {
+    if ORDER_ROOM < bytes.len() {
         return refuse(2, 0);
     }
     let w = walk(bytes);

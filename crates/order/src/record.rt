@@ -10,6 +10,12 @@ use records::dose_in;
 use records::fans_blank;
 use records::fans_in;
 use records::kind_of;
+use steps::limits::LAST_RELEASE;
+use steps::limits::MOST_BAY;
+use steps::limits::MOST_FANS;
+use steps::limits::MOST_GRAMS;
+use steps::limits::MOST_TOP;
+use steps::limits::WEEK;
 ghost use mathlib.Core.Path.{_≡_};
 ghost use lib.ListN.{length};
 ghost use Rattle.model.specs.Records.{within, recordSize};
@@ -27,29 +33,29 @@ fn inside(lo: u32, hi: u32, v: u32) -> bool
 fn fans_fit(f: Fans) -> bool
     ensures { λ r. ⌜ r ≡ fansFit (asFans f) ⌝ }
 {
-    if !inside(1, 8, f.fans) {
+    if !inside(1, MOST_FANS, f.fans) {
         return false;
     }
-    if !inside(1, 1000000, f.top_grams) {
+    if !inside(1, MOST_TOP, f.top_grams) {
         return false;
     }
-    inside(1, 1000000, f.top_seconds)
+    inside(1, MOST_TOP, f.top_seconds)
 }
 
 // The release is checked before it is raised by one, so that no sum wraps.
 fn dose_fits(d: Dose) -> bool
     ensures { λ r. ⌜ r ≡ doseFits (asDose d) ⌝ }
 {
-    if !inside(1, 999, d.bay) {
+    if !inside(1, MOST_BAY, d.bay) {
         return false;
     }
-    if 604799 < d.release {
+    if LAST_RELEASE < d.release {
         return false;
     }
-    if !inside(d.release + 1, 604800, d.deadline) {
+    if !inside(d.release + 1, WEEK, d.deadline) {
         return false;
     }
-    inside(1, 1000000, d.grams)
+    inside(1, MOST_GRAMS, d.grams)
 }
 
 // "4 a byte that must be zero isn't", then "5 a field out of range"; 0 where neither is.

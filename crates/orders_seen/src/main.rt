@@ -5,6 +5,7 @@ use records::Dose;
 use records::Fans;
 ghost use Prim.Native.Nat.{_+_, _*_, _≤_, _<_};
 ghost use lib.ListN.{length};
+ghost use Rattle.model.specs.Limits.{mostDoses};
 
 fn word(text: &[u8]) {
     io::write_all(STDOUT_FILENO, text);
@@ -21,7 +22,7 @@ fn count(n: usize) {
 }
 
 fn show_dose(o: Order, k: usize)
-    requires { ⌜ k < 24 ⌝ }
+    requires { ⌜ k < mostDoses ⌝ }
 {
     word(b"[");
     number(o.bay[k]);
@@ -32,7 +33,7 @@ fn show_dose(o: Order, k: usize)
 }
 
 fn show_doses(o: Order)
-    requires { ⌜ o .count ≤ 24 ⌝ }
+    requires { ⌜ o .count ≤ mostDoses ⌝ }
 {
     let n = o.count;
     let mut k = 0;
@@ -43,7 +44,7 @@ fn show_doses(o: Order)
 }
 
 fn show_spans(o: Order)
-    requires { ⌜ o .count ≤ 24 ⌝ }
+    requires { ⌜ o .count ≤ mostDoses ⌝ }
 {
     let s = interval::instants_of(o);
     let mut j = 0;

@@ -3,9 +3,11 @@ use records::RECORD_SIZE;
 use records::Slot;
 use records::slot_at;
 use slots::place_of;
+use steps::limits::MOST_INSTANTS;
 use steps::product;
 ghost use Prim.Native.Nat.{ℕ, _+_, _/_, _<_, _≤_};
 ghost use lib.ListN.{length};
+ghost use Rattle.model.specs.Limits.{mostIntervals};
 ghost use Rattle.model.specs.Records.{recordSize};
 ghost use Rattle.model.specs.Stands.{EndsBy};
 ghost use Rattle.records.specs.Held.{asSlot};
@@ -27,8 +29,8 @@ fn ends_by(s: Slot, u: Slot) -> bool
 }
 
 // Neighbours: the later one in a later interval, or on a higher fan, or behind the other.
-fn in_turn(s: Slot, u: Slot, instants: &[u32; 48], intervals: usize) -> bool
-    requires { ⌜ (intervals ≤ 47) × SlotLong (asSlot s) × SlotLong (asSlot u) ⌝ }
+fn in_turn(s: Slot, u: Slot, instants: &[u32; MOST_INSTANTS], intervals: usize) -> bool
+    requires { ⌜ (intervals ≤ mostIntervals) × SlotLong (asSlot s) × SlotLong (asSlot u) ⌝ }
     ensures { λ t. ⌜ Tells t (InTurn (now (instants .entry)) intervals (asSlot s) (asSlot u)) ⌝ }
 {
     let i = place_of(instants, intervals, s.start_tick);
@@ -49,8 +51,8 @@ fn in_turn(s: Slot, u: Slot, instants: &[u32; 48], intervals: usize) -> bool
 }
 
 // "The order of slots counts".
-pub fn all_in_turn(plan: &[u8], p: usize, instants: &[u32; 48], intervals: usize) -> bool
-    requires { ⌜ (intervals ≤ 47) × (p ≤ length (now plan) / recordSize) × ((i : ℕ) → i < length (now plan) / recordSize → p ≤ i → SlotLong (slotIn (now plan) i)) ⌝ }
+pub fn all_in_turn(plan: &[u8], p: usize, instants: &[u32; MOST_INSTANTS], intervals: usize) -> bool
+    requires { ⌜ (intervals ≤ mostIntervals) × (p ≤ length (now plan) / recordSize) × ((i : ℕ) → i < length (now plan) / recordSize → p ≤ i → SlotLong (slotIn (now plan) i)) ⌝ }
     ensures { λ t. ⌜ Tells t ((i : ℕ) → i + 1 < length (now (plan .entry)) / recordSize → p ≤ i → InTurn (now (instants .entry)) intervals (slotIn (now (plan .entry)) i) (slotIn (now (plan .entry)) (i + 1))) ⌝ }
 {
     let m = plan.len() / RECORD_SIZE;
@@ -81,8 +83,14 @@ fn apart(s: Slot, u: Slot) -> bool
 }
 
 // Slot i against the later ones of its interval: those of later intervals are apart.
-fn clear_after(plan: &[u8], p: usize, i: usize, instants: &[u32; 48], intervals: usize) -> bool
-    requires { ⌜ (intervals ≤ 47) × (p ≤ i) × (i < length (now plan) / recordSize) × Ready (now instants) intervals (now plan) p ⌝ }
+fn clear_after(
+    plan: &[u8],
+    p: usize,
+    i: usize,
+    instants: &[u32; MOST_INSTANTS],
+    intervals: usize,
+) -> bool
+    requires { ⌜ (intervals ≤ mostIntervals) × (p ≤ i) × (i < length (now plan) / recordSize) × Ready (now instants) intervals (now plan) p ⌝ }
     ensures { λ t. ⌜ Tells t (ApartAfter (now (instants .entry)) intervals (now (plan .entry)) i (length (now (plan .entry)) / recordSize)) ⌝ }
 {
     let m = plan.len() / RECORD_SIZE;
@@ -104,8 +112,8 @@ fn clear_after(plan: &[u8], p: usize, i: usize, instants: &[u32; 48], intervals:
 }
 
 // "no two slots of one dose overlap".
-pub fn all_clear(plan: &[u8], p: usize, instants: &[u32; 48], intervals: usize) -> bool
-    requires { ⌜ (intervals ≤ 47) × Ready (now instants) intervals (now plan) p ⌝ }
+pub fn all_clear(plan: &[u8], p: usize, instants: &[u32; MOST_INSTANTS], intervals: usize) -> bool
+    requires { ⌜ (intervals ≤ mostIntervals) × Ready (now instants) intervals (now plan) p ⌝ }
     ensures { λ t. ⌜ Tells t ((i : ℕ) → i < length (now (plan .entry)) / recordSize → p ≤ i → ApartAfter (now (instants .entry)) intervals (now (plan .entry)) i (length (now (plan .entry)) / recordSize)) ⌝ }
 {
     let m = plan.len() / RECORD_SIZE;

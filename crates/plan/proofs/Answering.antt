@@ -4,10 +4,11 @@ use mathlib.Core.Path.{_≡_, ap, _∙_}
 use mathlib.Core.List.{List}
 use Prim.Native.Nat.{ℕ, _≤_, _<_}
 use lib.ListN.{length}
+use Rattle.model.specs.Limits.{planRoom}
 use Rattle.model.specs.Orders.{Order, readOrder}
 use Rattle.model.specs.Records.{read, refused}
 use Rattle.model.specs.Layout.{slotsOf, tableSlots}
-use Rattle.model.specs.Answers.{Plans, no-room, overwritten, planBytes, planRoom, refusal, refuses, unread}
+use Rattle.model.specs.Answers.{Plans, no-room, overwritten, planBytes, refusal, refuses, unread}
 use Rattle.model.specs.Answers as answers
 use Rattle.layout.specs.declared.Tables.{Tables}
 use Rattle.layout.specs.Held.{shareAt, tableFrom}

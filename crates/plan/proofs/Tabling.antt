@@ -4,6 +4,7 @@ use mathlib.Core.List.{List}
 use Prim.Native.Nat.{ℕ, _+_, _*_, _<_}
 use native.Mathlib.Omega.{arith}
 use lib.ListN.{getD, length}
+use Rattle.model.specs.Limits.{cells, mostDoses, mostIntervals}
 use Rattle.model.specs.Sets.{on}
 use Rattle.model.specs.Classes.{Classes, W, classP, reserved}
 use Rattle.model.specs.Intervals.{fansPresent, settingOf}
@@ -24,14 +25,14 @@ use Rattle.plan.specs.Held.{Holds, TablesOf}
 
 -- the shares of class i
 abbrev sharesBy : List ℕ → List ℕ → ℕ → ℕ → ℕ → ℕ
-sharesBy numbers shares i k j = on (setsOf numbers i k) (getD shares (k * 47 + j) 0)
+sharesBy numbers shares i k j = on (setsOf numbers i k) (getD shares (k * mostIntervals + j) 0)
 
 module _ {o : code.Order} (fit : Fit (asOrder o)) {s : Instants} (bounds : InstantsOf o s) {p : ℕ} {numbers grams time : List ℕ} {t : Tables}
     (made : TablesOf (o .count) s p numbers grams time t)
     (found : Classes (settingOf (asOrder o)) (fansPresent (asOrder o)) p (setsOf numbers))
     (weighed : (i : ℕ) → i < p → getD grams i 0 ≡ W (settingOf (asOrder o)) (setsOf numbers i))
     (timed : (i : ℕ) → i < p → getD time i 0 ≡ classP (settingOf (asOrder o)) (fansPresent (asOrder o)) (setsOf numbers) i) where
-  few : (i : ℕ) → i < p → i < 24
+  few : (i : ℕ) → i < p → i < mostDoses
   few i l = omega (arith, few-classes (settingOf (asOrder o)) (fansPresent (asOrder o)) p (setsOf numbers) found, fit .few)
 
   grams-held : (i : ℕ) → i < p → getD (t .grams) i 0 ≡ W (settingOf (asOrder o)) (setsOf numbers i)
@@ -43,7 +44,7 @@ module _ {o : code.Order} (fit : Fit (asOrder o)) {s : Instants} (bounds : Insta
   -- the tables hold the order's classes and shares
   pub tables-hold : {shares : List ℕ} {rows : List (List ℕ)} → ((i j : ℕ) → i < p → j < settingOf (asOrder o) .intervals
       → fansAt rows i j ≡ reserved (settingOf (asOrder o)) (fansPresent (asOrder o)) (setsOf numbers) i j)
-      → length shares ≡ 1128 → ValidShares (asOrder o) p (setsOf numbers) (sharesBy numbers shares) → Holds (asOrder o) t shares rows
+      → length shares ≡ cells → ValidShares (asOrder o) p (setsOf numbers) (sharesBy numbers shares) → Holds (asOrder o) t shares rows
   unfolding shareAt
   tables-hold rowed size shared = rw (made .classes-is, made .class-of-is, made .instants-is) (record {
     doses = made .doses-is ∙ doses-is o;

@@ -3,6 +3,7 @@ use mathlib.Core.Path.{_≡_}
 use mathlib.Core.List.{List, [], _∷_}
 use Prim.Native.Nat.{ℕ, _+_, _-_, _%_, _<_, _≤_}
 use lib.ListN.{getD, length}
+use Rattle.model.specs.Limits.{cells, mostDoses}
 use Rattle.model.specs.Sets.{Doses, weight}
 use Rattle.model.specs.Lists.{gather}
 use Rattle.model.specs.Orders.{Order}
@@ -41,7 +42,7 @@ pub record Holds (o : Order) (t : Tables) (shares : List ℕ) (rows : List (List
   pub grams : (i : ℕ) → i < t .classes → getD (t .grams) i 0 ≡ W (settingOf o) (membersFrom t i)
   pub time : (i : ℕ) → i < t .classes → getD (t .time) i 0 ≡ classP (settingOf o) (fansPresent o) (membersFrom t) i
   pub fans : (i j : ℕ) → i < t .classes → j < settingOf o .intervals → fansAt rows i j ≡ reserved (settingOf o) (fansPresent o) (membersFrom t) i j
-  pub size : length shares ≡ 1128
+  pub size : length shares ≡ cells
   pub valid : ValidShares o (t .classes) (membersFrom t) (shareAt t shares)
 
 -- tables of so many doses and classes, with the instants, classes, W and P of these arrays
@@ -51,5 +52,5 @@ pub record TablesOf (doses : ℕ) (s : Instants) (classes : ℕ) (classOf grams 
   pub intervals-is : t .intervals ≡ s .count - 1
   pub instants-is : t .instants ≡ s .at
   pub class-of-is : t .«class_of» ≡ classOf
-  pub grams-is : (i : ℕ) → i < 24 → getD (t .grams) i 0 ≡ getD grams i 0 % 4294967296
-  pub time-is : (i : ℕ) → i < 24 → getD (t .time) i 0 ≡ getD time i 0 % 4294967296
+  pub grams-is : (i : ℕ) → i < mostDoses → getD (t .grams) i 0 ≡ getD grams i 0 % 4294967296
+  pub time-is : (i : ℕ) → i < mostDoses → getD (t .time) i 0 ≡ getD time i 0 % 4294967296

@@ -5,10 +5,14 @@ use crate::write::write_plan;
 use classes::Tally;
 use classes::TooFast;
 use order::Order;
+use steps::limits::CELLS;
+use steps::limits::MOST_DOSES;
+use steps::limits::MOST_INTERVALS;
 ghost use mathlib.Core.Path.{_≡_};
 ghost use Prim.Native.Nat.{_≤_};
 ghost use lib.ListN.{length};
-ghost use Rattle.model.specs.Answers.{planRoom, refusal};
+ghost use Rattle.model.specs.Limits.{planRoom};
+ghost use Rattle.model.specs.Answers.{refusal};
 ghost use Rattle.model.proofs.Orders.{Fit};
 ghost use Rattle.order.specs.Held.{asOrder};
 ghost use Rattle.classes.specs.Answer.{ClassesOf, SharesOf, nine};
@@ -63,8 +67,8 @@ fn finished(classes: usize, slots: usize) -> Planned
 fn write_order(
     o: Order,
     tally: Tally,
-    shares: &[u64; 1128],
-    reserved: &[[u8; 47]; 24],
+    shares: &[u64; CELLS],
+    reserved: &[[u8; MOST_INTERVALS]; MOST_DOSES],
     plan: &mut [u8],
 ) -> Planned
     requires { ⌜ Fit (asOrder o) × ClassesOf (asOrder o) tally × SharesOf (asOrder o) tally (now reserved) (now shares) × (planRoom ≤ length (now plan)) ⌝ }
@@ -83,8 +87,8 @@ fn write_order(
 pub fn settle(
     o: Order,
     tally: Tally,
-    shares: &[u64; 1128],
-    reserved: &[[u8; 47]; 24],
+    shares: &[u64; CELLS],
+    reserved: &[[u8; MOST_INTERVALS]; MOST_DOSES],
     plan: &mut [u8],
 ) -> Planned
     requires { ⌜ Fit (asOrder o) × ClassesOf (asOrder o) tally × SharesOf (asOrder o) tally (now reserved) (now shares) × (planRoom ≤ length (now plan)) ⌝ }

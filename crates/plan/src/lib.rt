@@ -6,9 +6,14 @@ mod write; // write.rt: the plan's records
 use answer::refused;
 use answer::settle;
 use order::Order;
+use steps::limits::CELLS;
+use steps::limits::MOST_DOSES;
+use steps::limits::MOST_INTERVALS;
+use steps::limits::PLAN_ROOM;
 ghost use Prim.Native.Nat.{_≤_};
 ghost use lib.ListN.{length};
-ghost use Rattle.model.specs.Answers.{Plans, planRoom};
+ghost use Rattle.model.specs.Limits.{planRoom};
+ghost use Rattle.model.specs.Answers.{Plans};
 ghost use Rattle.model.proofs.Orders.{Fit};
 ghost use Rattle.order.specs.Held.{asOrder};
 ghost use Rattle.plan.specs.Answered.{asPlanned, PlansOrder};
@@ -30,8 +35,8 @@ fn plan_order(o: Order, plan: &mut [u8]) -> Planned
     requires { ⌜ Fit (asOrder o) × (planRoom ≤ length (now plan)) ⌝ }
     ensures { λ r. ⌜ PlansOrder (asOrder o) (now (plan .entry)) (asPlanned r) (now (plan .exit)) ⌝ }
 {
-    let mut shares = [0u64; 1128];
-    let mut reserved = [[0u8; 47]; 24];
+    let mut shares = [0u64; CELLS];
+    let mut reserved = [[0u8; MOST_INTERVALS]; MOST_DOSES];
     let tally = classes::classes_of(o, &mut shares, &mut reserved);
     settle(o, tally, &shares, &reserved, plan)
 }
@@ -40,7 +45,7 @@ fn plan_order(o: Order, plan: &mut [u8]) -> Planned
 pub fn plan(order: &[u8], plan: &mut [u8]) -> Planned
     ensures { λ r. ⌜ Plans (now (order .entry)) (now (plan .entry)) (asPlanned r) (now (plan .exit)) ⌝ }
 {
-    if plan.len() < 47392 {
+    if plan.len() < PLAN_ROOM {
         return refused(1, 0);
     }
     let reading = order::read_order(order);

@@ -1,18 +1,20 @@
 // The tables that slots are laid by, from an order's instants and classes.
 use interval::Instants;
 use layout::Tables;
+use steps::limits::MOST_DOSES;
 ghost use mathlib.Core.Path.{_≡_};
 ghost use Prim.Native.Nat.{ℕ, _%_, _<_};
 ghost use lib.ListN.{getD};
+ghost use Rattle.model.specs.Limits.{mostDoses};
 ghost use Rattle.plan.specs.Held.{TablesOf};
 
 // W and P are at most 24 × 1,000,000 and 8 × 604,800: numbers of four bytes.
-fn narrow(wide: [u64; 24]) -> [u32; 24]
-    ensures { λ r. ⌜ ((i : ℕ) → i < 24 → getD r i 0 ≡ getD wide i 0 % 4294967296) ⌝ }
+fn narrow(wide: [u64; MOST_DOSES]) -> [u32; MOST_DOSES]
+    ensures { λ r. ⌜ ((i : ℕ) → i < mostDoses → getD r i 0 ≡ getD wide i 0 % 4294967296) ⌝ }
 {
-    let mut numbers = [0u32; 24];
+    let mut numbers = [0u32; MOST_DOSES];
     let mut i = 0;
-    while i < 24 {
+    while i < MOST_DOSES {
         numbers[i] = (wide[i] % 4294967296) as u32;
         i += 1;
     }
@@ -23,9 +25,9 @@ pub fn tables_of(
     doses: usize,
     s: Instants,
     classes: usize,
-    class_of: [u32; 24],
-    grams: [u64; 24],
-    time: [u64; 24],
+    class_of: [u32; MOST_DOSES],
+    grams: [u64; MOST_DOSES],
+    time: [u64; MOST_DOSES],
 ) -> Tables
     ensures { λ r. ⌜ TablesOf doses s classes «class_of» grams time r ⌝ }
 {

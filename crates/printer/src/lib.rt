@@ -3,9 +3,11 @@
 use libc::STDIN_FILENO;
 use libc::STDOUT_FILENO;
 use plan::Planned;
+use steps::limits::PLAN_ROOM;
 ghost use mathlib.Core.Path.{_≡_};
 ghost use Prim.Native.Nat.{_+_, _*_, _≤_};
 ghost use lib.ListN.{length};
+ghost use Rattle.model.specs.Limits.{planRoom};
 ghost use Rattle.model.specs.Records.{recordSize};
 ghost use Rattle.io.specs.Counts.{Counts};
 ghost use Rattle.lines.specs.Text.{Put};
@@ -13,10 +15,10 @@ ghost use Rattle.plan.specs.Answered.{asPlanned};
 ghost use Rattle.printer.specs.Prints.{answerText, Exits, Prints};
 
 // Room for every plan: 24 classes and 1,457 slots.
-fn plan_buffer() -> [u8; 47392]
-    ensures { λ r. ⌜ 47392 ≡ length r ⌝ }
+fn plan_buffer() -> [u8; PLAN_ROOM]
+    ensures { λ r. ⌜ planRoom ≡ length r ⌝ }
 {
-    [0; 47392]
+    [0; PLAN_ROOM]
 }
 
 // Room for the text of every plan: a line of at most 160 bytes for each of its 1,481 records, and the total.
@@ -92,7 +94,7 @@ struct Printed {
 
 // Plans an order, and puts the text of the answer into the text buffer.
 fn print(order: &[u8], plan: &mut [u8], text: &mut [u8]) -> Printed
-    requires { ⌜ (length (now plan) ≡ 47392) × (237120 ≤ length (now text)) ⌝ }
+    requires { ⌜ (length (now plan) ≡ planRoom) × (237120 ≤ length (now text)) ⌝ }
     ensures { λ r. ⌜ Prints (now (order .entry)) (now (plan .entry)) (now (plan .exit)) (now (text .entry)) (now (text .exit)) (r .planned) (r .end) ⌝ }
 {
     let p = plan::plan(order, plan);

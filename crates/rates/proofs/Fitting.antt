@@ -5,6 +5,7 @@ use mathlib.Core.Path.{_≡_, _∙_, sym}
 use Prim.Native.Nat.{ℕ, _+_, _-_, _*_, _<_, _≤_}
 use native.Mathlib.Omega.{arith}
 use lib.ListN.{getD}
+use Rattle.model.specs.Limits.{mostDoses, mostIntervals}
 use Rattle.model.specs.Sets.{Doses, sum, weight}
 use Rattle.model.specs.Classes.{Setting, free}
 use Rattle.model.specs.Plans.{Class}
@@ -17,9 +18,9 @@ use Rattle.clauses.specs.Tests.{ClassFits, Says, Sheet, Tells, fansIn, settingI
 use Rattle.clauses.proofs.Tell.{tells-by}
 
 -- `set` marks the class, `fans` has what the earlier classes leave; the rest was worked out from them
-module _ (h : Sheet) (few : h .doses ≤ 24) (few′ : h .intervals ≤ 47) (numbers : List ℕ) (i : ℕ)
+module _ (h : Sheet) (few : h .doses ≤ mostDoses) (few′ : h .intervals ≤ mostIntervals) (numbers : List ℕ) (i : ℕ)
     (fans : List ℕ) (left : Frees (settingIn h) (fansIn h) (setsOf numbers) i fans)
-    (set : List Bool) (marked : (k : ℕ) → k < 24 → getD set k false ≡ setsOf numbers i k)
+    (set : List Bool) (marked : (k : ℕ) → k < mostDoses → getD set k false ≡ setsOf numbers i k)
     (open-fans : List ℕ) (opened : Opens (h .release) (h .deadline) (h .instants) (h .doses) (h .intervals) set fans open-fans)
     (size w p : ℕ) (counted : size ≡ weight (h .doses) (λ k. 1) (setOf set)) (weighs : w ≡ weight (h .doses) (λ k. getD (h .grams) k 0) (setOf set))
     (lasts : p ≡ sum (h .intervals) (λ j. lenOf (h .instants) j * getD open-fans j 0)) where
@@ -48,5 +49,5 @@ module _ (h : Sheet) (few : h .doses ≤ 24) (few′ : h .intervals ≤ 47) (num
       (λ f. record { number = f .number; doses = f .doses ∙ sym doses; some = f .some; weighs = f .grams ∙ sym grams; lasts = f .time ∙ sym time })
 
   -- and the next class has the fans that are left
-  pub frees-after : (next : List ℕ) → ((j : ℕ) → j < 47 → getD next j 0 ≡ getD fans j 0 - getD open-fans j 0) → Frees S (fansIn h) C (i + 1) next
+  pub frees-after : (next : List ℕ) → ((j : ℕ) → j < mostIntervals → getD next j 0 ≡ getD fans j 0 - getD open-fans j 0) → Frees S (fansIn h) C (i + 1) next
   frees-after next e = frees-next S (fansIn h) C i fans open-fans next left (worked-out .fans) (λ j l. e j (omega arith))

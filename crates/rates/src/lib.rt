@@ -8,21 +8,25 @@ use records::Class;
 use records::class_at;
 use steps::excess;
 use steps::less;
+use steps::limits::MOST_DOSES;
+use steps::limits::MOST_INSTANTS;
+use steps::limits::MOST_INTERVALS;
 ghost use mathlib.Core.Path.{_≡_};
 ghost use Prim.Native.Nat.{ℕ, _+_, _-_, _/_, _<_, _≤_};
 ghost use lib.ListN.{length, getD};
+ghost use Rattle.model.specs.Limits.{mostDoses, mostIntervals};
 ghost use Rattle.model.specs.Records.{recordSize};
 ghost use Rattle.records.specs.Held.{asClass};
 ghost use Rattle.records.specs.Plan.{classIn};
 ghost use Rattle.clauses.specs.Tests.{Tells, ClassFits, Falls, sheet, Says};
 
 // "fans − fans reserved by earlier classes", after one class more.
-fn free_after(free: [u64; 47], row: [u64; 47]) -> [u64; 47]
-    ensures { λ r. ⌜ ((j : ℕ) → j < 47 → getD r j 0 ≡ getD free j 0 - getD row j 0) ⌝ }
+fn free_after(free: [u64; MOST_INTERVALS], row: [u64; MOST_INTERVALS]) -> [u64; MOST_INTERVALS]
+    ensures { λ r. ⌜ ((j : ℕ) → j < mostIntervals → getD r j 0 ≡ getD free j 0 - getD row j 0) ⌝ }
 {
-    let mut left = [0u64; 47];
+    let mut left = [0u64; MOST_INTERVALS];
     let mut j = 0;
-    while j < 47 {
+    while j < MOST_INTERVALS {
         left[j] = less(free[j], row[j]);
         j += 1;
     }
@@ -30,7 +34,7 @@ fn free_after(free: [u64; 47], row: [u64; 47]) -> [u64; 47]
 }
 
 fn says(c: Class, i: usize, size: u64, grams: u64, time: u64) -> bool
-    requires { ⌜ i < 24 ⌝ }
+    requires { ⌜ i < mostDoses ⌝ }
     ensures { λ t. ⌜ Tells t (Says (asClass c) i size grams time) ⌝ }
 {
     if c.number as usize != i + 1 {
@@ -52,20 +56,20 @@ fn says(c: Class, i: usize, size: u64, grams: u64, time: u64) -> bool
 pub fn classes_fit(
     plan: &[u8],
     p: usize,
-    numbers: &[u32; 24],
-    release: &[u32; 24],
-    deadline: &[u32; 24],
-    grams: &[u32; 24],
-    instants: &[u32; 48],
+    numbers: &[u32; MOST_DOSES],
+    release: &[u32; MOST_DOSES],
+    deadline: &[u32; MOST_DOSES],
+    grams: &[u32; MOST_DOSES],
+    instants: &[u32; MOST_INSTANTS],
     doses: usize,
     intervals: usize,
     fans: u32,
 ) -> bool
-    requires { ⌜ (p ≤ length (now plan) / recordSize) × (p ≤ 24) × (doses ≤ 24) × (intervals ≤ 47) ⌝ }
+    requires { ⌜ (p ≤ length (now plan) / recordSize) × (p ≤ mostDoses) × (doses ≤ mostDoses) × (intervals ≤ mostIntervals) ⌝ }
     ensures { λ t. ⌜ Tells t ((i : ℕ) → i < p → ClassFits (sheet doses intervals fans (now (release .entry)) (now (deadline .entry)) (now (grams .entry)) (now (instants .entry))) (now (numbers .entry)) i (classIn (now (plan .entry)) i)) ⌝ }
 {
     let all = fans as u64;
-    let mut free = [all; 47];
+    let mut free = [all; MOST_INTERVALS];
     let mut i = 0;
     while i < p {
         let set = set_of(numbers, i);

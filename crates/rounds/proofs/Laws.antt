@@ -8,14 +8,15 @@ use native.Mathlib.Omega.{arith}
 use lib.Arith.{digits-div, digits-mod}
 use lib.Dec.{T}
 use lib.ListN.{length, getD, List·getD-eq-default}
+use Rattle.model.specs.Limits.{mostIntervals}
 use Rattle.model.specs.Sets.{on, Doses}
 use Rattle.model.proofs.Fractions.{compare≤}
 use Rattle.sheet.proofs.Laws.{and-false}
 use Rattle.rounds.specs.Rounds.{NonePast}
 
 -- a room by dose and interval, and by its place
-pub room-place : (active set : List Bool) (lens : List ℕ) (w k j : ℕ) → j < 47
-    → on (getD set k false) (on (getD active (k * 47 + j) false) (getD lens j 0 * w)) ≡ on (getD set ((k * 47 + j) / 47) false) (on (getD active (k * 47 + j) false) (getD lens ((k * 47 + j) % 47) 0 * w))
+pub room-place : (active set : List Bool) (lens : List ℕ) (w k j : ℕ) → j < mostIntervals
+    → on (getD set k false) (on (getD active (k * mostIntervals + j) false) (getD lens j 0 * w)) ≡ on (getD set ((k * mostIntervals + j) / mostIntervals) false) (on (getD active (k * mostIntervals + j) false) (getD lens ((k * mostIntervals + j) % mostIntervals) 0 * w))
 room-place active set lens w k j h = rw (digits-div k h, digits-mod k h)
 
 -- marks of both arrays, also past their ends

@@ -4,6 +4,7 @@ use mathlib.Core.List.{List}
 use mathlib.Core.Path.{_≡_, refl, sym, _∙_}
 use Prim.Native.Nat.{ℕ}
 use lib.ListN.{length}
+use Rattle.model.specs.Limits.{mostDoses, mostIntervals}
 use Rattle.model.specs.Sets.{Doses}
 use Rattle.model.specs.Classes.{Setting, Row}
 use Rattle.model.proofs.Sets.{Alike, weight-alike}
@@ -15,17 +16,17 @@ use Rattle.sheet.specs.Sheet.{setOf}
 use Rattle.rounds.specs.declared.Class.{Class}
 use Rattle.rounds.specs.Rounds.{NextOf}
 
-module _ (S : Setting) (row : Row) (rest : Doses) {c c′ : Class} {x x′ : List ℕ} (l : length (c .members) ≡ 24) (l′ : length (c′ .members) ≡ 24)
-    (m : length (c .reserved) ≡ 47) (m′ : length (c′ .reserved) ≡ 47) (a : NextOf S row rest c x) (b : NextOf S row rest c′ x′) where
+module _ (S : Setting) (row : Row) (rest : Doses) {c c′ : Class} {x x′ : List ℕ} (l : length (c .members) ≡ mostDoses) (l′ : length (c′ .members) ≡ mostDoses)
+    (m : length (c .reserved) ≡ mostIntervals) (m′ : length (c′ .reserved) ≡ mostIntervals) (a : NextOf S row rest c x) (b : NextOf S row rest c′ x′) where
   same-set : Alike (S .doses) (setOf (c .members)) (setOf (c′ .members))
   same-set = next-unique S row rest (setOf (c .members)) (setOf (c′ .members)) (a .chosen .next) (b .chosen .next)
 
   one-set : c .members ≡ c′ .members
-  one-set = places-one false 24 l l′ (λ k q.
+  one-set = places-one false mostDoses l l′ (λ k q.
       below-or k (S .doses) (same-set k) (λ g. a .chosen .past k g q ∙ sym (b .chosen .past k g q)))
 
   one-row : c .reserved ≡ c′ .reserved
-  one-row = places-one 0 47 m m′ (λ j q.
+  one-row = places-one 0 mostIntervals m m′ (λ j q.
       below-or j (S .intervals)
       (λ h. a .measured .fans j h ∙ openFans-alike S row row _ _ j refl same-set ∙ sym (b .measured .fans j h))
       (λ g. a .measured .no-fans j g q ∙ sym (b .measured .no-fans j g q)))

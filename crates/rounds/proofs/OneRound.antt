@@ -7,6 +7,7 @@ use Prim.Native.Nat.{ℕ, _+_, _*_, _<_}
 use native.Mathlib.Omega.{arith}
 use lib.Dec.{T}
 use lib.ListN.{getD}
+use Rattle.model.specs.Limits.{mostDoses, mostIntervals}
 use Rattle.model.specs.Sets.{on, Doses, Nonempty}
 use Rattle.model.specs.Classes.{Setting, W, openFans}
 use Rattle.model.proofs.Sets.{on-and, and-right}
@@ -35,13 +36,13 @@ module _ (n J : ℕ) (release deadline instants : List ℕ) (active : List Bool)
 
   module _ (rooms holds needs : List ℕ) (hr : Rooms active lens set w rooms) (hh : Holds lens reserved w holds) (hn : Needs grams set p needs) where
     -- a room by dose and interval
-    room-at : (k j : ℕ) → k < 24 → j < 47 → cell rooms k j ≡ on (A k && activeOf active k j) (getD lens j 0 * w)
+    room-at : (k j : ℕ) → k < mostDoses → j < mostIntervals → cell rooms k j ≡ on (A k && activeOf active k j) (getD lens j 0 * w)
     room-at k j hk hj =
-        hr (k * 47 + j) (omega arith)
+        hr (k * mostIntervals + j) (omega arith)
         ∙ sym (room-place active set lens w k j hj)
         ∙ on-and (A k) (activeOf active k j) (getD lens j 0 * w)
 
-    no-room : (k j : ℕ) → k < 24 → j < 47 → activeOf active k j ≡ false → cell rooms k j ≡ 0
+    no-room : (k j : ℕ) → k < mostDoses → j < mostIntervals → activeOf active k j ≡ false → cell rooms k j ≡ 0
     no-room k j hk hj e = room-at k j hk hj ∙ sym (on-and (A k) (activeOf active k j) _) ∙ on-zero (A k) (ap (λ (b : Bool). on b (getD lens j 0 * w)) e)
 
     asked : bridge.Asked S (rowOf free) A rooms holds needs
@@ -58,7 +59,7 @@ module _ (n J : ℕ) (release deadline instants : List ℕ) (active : List Bool)
       no-need = λ k g l. hn k l ∙ on-zero (A k) (ap (λ (y : ℕ). y * p) (sheet .no-grams k g) ∙ omega arith);
     }
 
-    module _ (x : List ℕ) (s part : List Bool) (r : Bool) (done : Raised rooms holds needs 1 24 s x) (m : Met needs x r)
+    module _ (x : List ℕ) (s part : List Bool) (r : Bool) (done : Raised rooms holds needs 1 mostDoses s x) (m : Met needs x r)
         (ht : (k : ℕ) → getD part k false ≡ (getD s k false && getD set k false)) where
       same : (λ k. getD s k false && getD set k false) ≡ setOf part
       same = fun-ext (λ k. sym (ht k))

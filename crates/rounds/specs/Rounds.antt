@@ -5,6 +5,7 @@ use mathlib.Core.List.{List}
 use Prim.Native.Nat.{ℕ, _*_, _/_, _%_, _<_, _≤_}
 use lib.Dec.{T}
 use lib.ListN.{getD}
+use Rattle.model.specs.Limits.{cells, mostDoses, mostIntervals}
 use Rattle.model.specs.Sets.{on, Doses, Sub, Nonempty}
 use Rattle.model.specs.Classes.{Setting, Row, W, NextClass}
 use Rattle.model.specs.Shares.{Valid}
@@ -18,18 +19,18 @@ use Rattle.rounds.specs.declared.Class.{Class}
 
 -- "at most L × W units, only where it is active": the first n rooms, and all
 abbrev pub RoomsTo : List Bool → List ℕ → List Bool → ℕ → ℕ → List ℕ → Type 0
-RoomsTo active lens set w n rooms = (i : ℕ) → i < n → getD rooms i 0 ≡ on (getD set (i / 47) false) (on (getD active i false) (getD lens (i % 47) 0 * w))
+RoomsTo active lens set w n rooms = (i : ℕ) → i < n → getD rooms i 0 ≡ on (getD set (i / mostIntervals) false) (on (getD active i false) (getD lens (i % mostIntervals) 0 * w))
 
 abbrev pub Rooms : List Bool → List ℕ → List Bool → ℕ → List ℕ → Type 0
-Rooms active lens set w rooms = RoomsTo active lens set w 1128 rooms
+Rooms active lens set w rooms = RoomsTo active lens set w cells rooms
 
 -- "its reserved fans × L × W", interval by interval
 abbrev pub Holds : List ℕ → List ℕ → ℕ → List ℕ → Type 0
-Holds lens open-fans w holds = (j : ℕ) → j < 47 → getD holds j 0 ≡ getD open-fans j 0 * (getD lens j 0 * w)
+Holds lens open-fans w holds = (j : ℕ) → j < mostIntervals → getD holds j 0 ≡ getD open-fans j 0 * (getD lens j 0 * w)
 
 -- "A dose of w grams in a class with W and P needs w × P units.", for the doses of the set
 abbrev pub Needs : List ℕ → List Bool → ℕ → List ℕ → Type 0
-Needs grams set p needs = (k : ℕ) → k < 24 → getD needs k 0 ≡ on (getD set k false) (getD grams k 0 * p)
+Needs grams set p needs = (k : ℕ) → k < mostDoses → getD needs k 0 ≡ on (getD set k false) (getD grams k 0 * p)
 
 -- ---- rounds
 
@@ -41,7 +42,7 @@ pub record Candidate (S : Setting) (row : Row) (rest A : Doses) : Type 0 where
 
 -- no dose has a share where it is not active
 abbrev pub NoShares : Setting → List ℕ → Type 0
-NoShares S x = (k j : ℕ) → k < 24 → j < 47 → S .active k j ≡ false → cell x k j ≡ 0
+NoShares S x = (k j : ℕ) → k < mostDoses → j < mostIntervals → S .active k j ≡ false → cell x k j ≡ 0
 
 -- one round over the candidate A, with the shares x: it is the class, or `part` is the next candidate
 pub record Tried (S : Setting) (row : Row) (A : Doses) (x : List ℕ) (met : Bool) (part : Doses) : Type 0 where
@@ -54,7 +55,7 @@ pub record Tried (S : Setting) (row : Row) (A : Doses) (x : List ℕ) (met : Boo
 
 -- no number past the n doses is marked
 abbrev pub NonePast : ℕ → Doses → Type 0
-NonePast n A = (k : ℕ) → n ≤ k → k < 24 → A k ≡ false
+NonePast n A = (k : ℕ) → n ≤ k → k < mostDoses → A k ≡ false
 
 -- A is the next class, with the shares x
 pub record Chosen (S : Setting) (row : Row) (rest A : Doses) (x : List ℕ) : Type 0 where
@@ -66,5 +67,5 @@ pub record Chosen (S : Setting) (row : Row) (rest A : Doses) (x : List ℕ) : Ty
 -- the next class c of the remaining doses: its doses, W and P, and the fans that it reserves; x are its shares
 pub record NextOf (S : Setting) (row : Row) (rest : Doses) (c : Class) (x : List ℕ) : Type 0 where
   pub measured : Measured S row (setOf (c .members)) (c .grams) (c .time) (c .reserved)
-  pub small : Below 24 (c .reserved)
+  pub small : Below mostDoses (c .reserved)
   pub chosen : Chosen S row rest (setOf (c .members)) x

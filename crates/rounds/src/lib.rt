@@ -3,12 +3,18 @@ use measure::fan_time;
 use measure::grams_of;
 use measure::open_fans;
 use steps::both;
+use steps::limits::CELLS;
+use steps::limits::MOST_DOSES;
+use steps::limits::MOST_INSTANTS;
+use steps::limits::MOST_INTERVALS;
+use steps::limits::MOST_MARKS;
 use steps::on;
 use steps::wide;
 ghost use mathlib.Core.Path.{_≡_};
 ghost use mathlib.Core.Bool.{false, _&&_};
 ghost use Prim.Native.Nat.{ℕ, _+_, _*_, _<_, _≤_};
 ghost use lib.ListN.{length, getD};
+ghost use Rattle.model.specs.Limits.{cells, mostClassGrams, mostDoses, mostIntervals, week};
 ghost use Rattle.model.specs.Sets.{Nonempty};
 ghost use Rattle.sheet.specs.Sheet.{setOf, rowOf, Below, settingFrom, Sheet};
 ghost use Rattle.measure.specs.Measure.{Measured};
@@ -16,19 +22,19 @@ ghost use Rattle.rounds.specs.Rounds.{RoomsTo, Rooms, Holds, Needs, None
 
 // "Its share in an interval of length L is at most L × W units, only where it is active": the rooms of dose k.
 fn lay_row(
-    rooms: &mut [u64; 1128],
-    active: &[bool; 1128],
-    lens: &[u64; 47],
-    set: [bool; 24],
+    rooms: &mut [u64; CELLS],
+    active: &[bool; CELLS],
+    lens: &[u64; MOST_INTERVALS],
+    set: [bool; MOST_DOSES],
     k: usize,
     w: u64,
 )
-    requires { ⌜ (length (now rooms) ≡ 1128) × Below 604800 (now lens) × (w ≤ 24000000) × (k < 24) × RoomsTo (now active) (now lens) set w (k * 47) (now rooms) ⌝ }
-    ensures { λ _. ⌜ (length (now (rooms .exit)) ≡ 1128) × RoomsTo (now (active .entry)) (now (lens .entry)) set w (k * 47 + 47) (now (rooms .exit)) ⌝ }
+    requires { ⌜ (length (now rooms) ≡ cells) × Below week (now lens) × (w ≤ mostClassGrams) × (k < mostDoses) × RoomsTo (now active) (now lens) set w (k * mostIntervals) (now rooms) ⌝ }
+    ensures { λ _. ⌜ (length (now (rooms .exit)) ≡ cells) × RoomsTo (now (active .entry)) (now (lens .entry)) set w (k * mostIntervals + mostIntervals) (now (rooms .exit)) ⌝ }
 {
     let mut j = 0;
-    while j < 47 {
-        let at = k * 47 + j;
+    while j < MOST_INTERVALS {
+        let at = k * MOST_INTERVALS + j;
         rooms[at] = on(set[k], on(active[at], lens[j] * w));
         j += 1;
     }
@@ -36,30 +42,34 @@ fn lay_row(
 
 // The rooms of all doses, in a lent array: none for doses outside the set.
 fn lay_rooms(
-    rooms: &mut [u64; 1128],
-    active: &[bool; 1128],
-    lens: &[u64; 47],
-    set: [bool; 24],
+    rooms: &mut [u64; CELLS],
+    active: &[bool; CELLS],
+    lens: &[u64; MOST_INTERVALS],
+    set: [bool; MOST_DOSES],
     w: u64,
 )
-    requires { ⌜ (length (now rooms) ≡ 1128) × Below 604800 (now lens) × (w ≤ 24000000) ⌝ }
-    ensures { λ _. ⌜ (length (now (rooms .exit)) ≡ 1128) × Rooms (now (active .entry)) (now (lens .entry)) set w (now (rooms .exit)) ⌝ }
+    requires { ⌜ (length (now rooms) ≡ cells) × Below week (now lens) × (w ≤ mostClassGrams) ⌝ }
+    ensures { λ _. ⌜ (length (now (rooms .exit)) ≡ cells) × Rooms (now (active .entry)) (now (lens .entry)) set w (now (rooms .exit)) ⌝ }
 {
     let mut k = 0;
-    while k < 24 {
+    while k < MOST_DOSES {
         lay_row(rooms, active, lens, set, k, w);
         k += 1;
     }
 }
 
 // "its reserved fans × L × W".
-fn holds_of(lens: &[u64; 47], reserved: [u64; 47], w: u64) -> [u64; 47]
-    requires { ⌜ Below 604800 (now lens) × Below 24 reserved × (w ≤ 24000000) ⌝ }
+fn holds_of(
+    lens: &[u64; MOST_INTERVALS],
+    reserved: [u64; MOST_INTERVALS],
+    w: u64,
+) -> [u64; MOST_INTERVALS]
+    requires { ⌜ Below week (now lens) × Below mostDoses reserved × (w ≤ mostClassGrams) ⌝ }
     ensures { λ r. ⌜ Holds (now (lens .entry)) reserved w r ⌝ }
 {
-    let mut holds = [0u64; 47];
+    let mut holds = [0u64; MOST_INTERVALS];
     let mut j = 0;
-    while j < 47 {
+    while j < MOST_INTERVALS {
         holds[j] = reserved[j] * (lens[j] * w);
         j += 1;
     }
@@ -67,13 +77,13 @@ fn holds_of(lens: &[u64; 47], reserved: [u64; 47], w: u64) -> [u64; 47]
 }
 
 // "A dose of w grams in a class with W and P needs w × P units."
-fn needs_of(grams: &[u32; 24], set: [bool; 24], p: u64) -> [u64; 24]
+fn needs_of(grams: &[u32; MOST_DOSES], set: [bool; MOST_DOSES], p: u64) -> [u64; MOST_DOSES]
     requires { ⌜ p ≤ 1000000000 ⌝ }
     ensures { λ r. ⌜ Needs (now (grams .entry)) set p r ⌝ }
 {
-    let mut needs = [0u64; 24];
+    let mut needs = [0u64; MOST_DOSES];
     let mut k = 0;
-    while k < 24 {
+    while k < MOST_DOSES {
         needs[k] = on(set[k], wide(grams[k]) * p);
         k += 1;
     }
@@ -81,12 +91,12 @@ fn needs_of(grams: &[u32; 24], set: [bool; 24], p: u64) -> [u64; 24]
 }
 
 // The doses of the set that are dead: no chain leads out of them.
-fn dead_part(dead: [bool; 72], set: [bool; 24]) -> [bool; 24]
+fn dead_part(dead: [bool; MOST_MARKS], set: [bool; MOST_DOSES]) -> [bool; MOST_DOSES]
     ensures { λ r. ⌜ ((k : ℕ) → getD r k false ≡ (getD dead k false && getD set k false)) ⌝ }
 {
-    let mut part = [false; 24];
+    let mut part = [false; MOST_DOSES];
     let mut k = 0;
-    while k < 24 {
+    while k < MOST_DOSES {
         part[k] = both(dead[k], set[k]);
         k += 1;
     }
@@ -96,34 +106,34 @@ fn dead_part(dead: [bool; 72], set: [bool; 24]) -> [bool; 24]
 // A candidate for the next class: whether its needs are met, and if not, the next candidate.
 struct Round {
     met: bool,
-    part: [bool; 24],
+    part: [bool; MOST_DOSES],
     grams: u64,
     time: u64,
-    reserved: [u64; 47],
+    reserved: [u64; MOST_INTERVALS],
 }
 
 // One round: the candidate's shares in x.
 fn try_candidate(
     x: &mut [u64],
-    release: &[u32; 24],
-    deadline: &[u32; 24],
-    instants: &[u32; 48],
-    active: &[bool; 1128],
-    lens: &[u64; 47],
-    grams: &[u32; 24],
+    release: &[u32; MOST_DOSES],
+    deadline: &[u32; MOST_DOSES],
+    instants: &[u32; MOST_INSTANTS],
+    active: &[bool; CELLS],
+    lens: &[u64; MOST_INTERVALS],
+    grams: &[u32; MOST_DOSES],
     doses: usize,
     intervals: usize,
-    free: [u64; 47],
-    set: [bool; 24],
-    sequence: [usize; 24],
+    free: [u64; MOST_INTERVALS],
+    set: [bool; MOST_DOSES],
+    sequence: [usize; MOST_DOSES],
 ) -> Round
-    requires { ⌜ (length (now x) ≡ 1128) × Sheet doses intervals (now release) (now deadline) (now instants) (now active) (now lens) (now grams) ⌝ }
-    ensures { λ r. ⌜ Measured (settingFrom doses intervals (now (active .entry)) (now (lens .entry)) (now (grams .entry))) (rowOf free) (setOf set) (r .grams) (r .time) (r .reserved) × Below 24 (r .reserved) × Tried (settingFrom doses intervals (now (active .entry)) (now (lens .entry)) (now (grams .entry))) (rowOf free) (setOf set) (now (x .exit)) (r .met) (setOf (r .part)) ⌝ }
+    requires { ⌜ (length (now x) ≡ cells) × Sheet doses intervals (now release) (now deadline) (now instants) (now active) (now lens) (now grams) ⌝ }
+    ensures { λ r. ⌜ Measured (settingFrom doses intervals (now (active .entry)) (now (lens .entry)) (now (grams .entry))) (rowOf free) (setOf set) (r .grams) (r .time) (r .reserved) × Below mostDoses (r .reserved) × Tried (settingFrom doses intervals (now (active .entry)) (now (lens .entry)) (now (grams .entry))) (rowOf free) (setOf set) (now (x .exit)) (r .met) (setOf (r .part)) ⌝ }
 {
     let w = grams_of(grams, doses, set);
     let reserved = open_fans(release, deadline, instants, doses, intervals, set, free);
     let p = fan_time(instants, intervals, reserved);
-    let mut rooms = [0u64; 1128];
+    let mut rooms = [0u64; CELLS];
     lay_rooms(&mut rooms, active, lens, set, w);
     let holds = holds_of(lens, reserved, w);
     let needs = needs_of(grams, set, p);
@@ -141,29 +151,29 @@ fn try_candidate(
 
 // The next class: its doses, W and P, and the fans that it reserves.
 pub struct Class {
-    pub members: [bool; 24],
+    pub members: [bool; MOST_DOSES],
     pub grams: u64,
     pub time: u64,
-    pub reserved: [u64; 47],
+    pub reserved: [u64; MOST_INTERVALS],
 }
 
 // "The next class is the set with the greatest W/P among nonempty sets of remaining doses": rounds, from all of them to a part whose needs are
 // met. Its shares are in x.
 pub fn next_class(
     x: &mut [u64],
-    release: &[u32; 24],
-    deadline: &[u32; 24],
-    instants: &[u32; 48],
-    active: &[bool; 1128],
-    lens: &[u64; 47],
-    grams: &[u32; 24],
+    release: &[u32; MOST_DOSES],
+    deadline: &[u32; MOST_DOSES],
+    instants: &[u32; MOST_INSTANTS],
+    active: &[bool; CELLS],
+    lens: &[u64; MOST_INTERVALS],
+    grams: &[u32; MOST_DOSES],
     doses: usize,
     intervals: usize,
-    free: [u64; 47],
-    remaining: [bool; 24],
-    sequence: [usize; 24],
+    free: [u64; MOST_INTERVALS],
+    remaining: [bool; MOST_DOSES],
+    sequence: [usize; MOST_DOSES],
 ) -> Class
-    requires { ⌜ (length (now x) ≡ 1128) × Sheet doses intervals (now release) (now deadline) (now instants) (now active) (now lens) (now grams) × Nonempty doses (setOf remaining) × NonePast doses (setOf remaining) ⌝ }
+    requires { ⌜ (length (now x) ≡ cells) × Sheet doses intervals (now release) (now deadline) (now instants) (now active) (now lens) (now grams) × Nonempty doses (setOf remaining) × NonePast doses (setOf remaining) ⌝ }
     ensures { λ r. ⌜ NextOf (settingFrom doses intervals (now (active .entry)) (now (lens .entry)) (now (grams .entry))) (rowOf free) (setOf remaining) r (now (x .exit)) ⌝ }
 {
     let mut set = remaining;

@@ -8,6 +8,7 @@ use mathlib.Core.Logic.{inl, inr}
 use lib.ListN.{getD}
 use lib.Dec.{T}
 use native.Mathlib.Omega.{arith}
+use Rattle.model.specs.Limits.{mostDoses, mostIntervals}
 use Rattle.model.specs.Sets.{on, weight, Doses, Sub, Nonempty}
 use Rattle.model.specs.Classes.{Setting, Row, W, NextClass}
 use Rattle.model.specs.Shares as model
@@ -32,16 +33,16 @@ module _ (S : Setting) (row : Row) (A : Doses) (rooms holds needs : List ℕ) wh
 
   -- the arrays hold what the candidate A asks for, and nothing past the doses and the intervals
   pub record Asked : Type 0 where
-    pub doses : n ≤ 24
-    pub intervals : J ≤ 47
+    pub doses : n ≤ mostDoses
+    pub intervals : J ≤ mostIntervals
     pub room : (k j : ℕ) → k < n → j < J → cell rooms k j ≡ model.room S row A k j
-    pub no-dose : (k j : ℕ) → n ≤ k → k < 24 → j < 47 → cell rooms k j ≡ 0
-    pub no-interval : (k j : ℕ) → k < 24 → J ≤ j → j < 47 → cell rooms k j ≡ 0
+    pub no-dose : (k j : ℕ) → n ≤ k → k < mostDoses → j < mostIntervals → cell rooms k j ≡ 0
+    pub no-interval : (k j : ℕ) → k < mostDoses → J ≤ j → j < mostIntervals → cell rooms k j ≡ 0
     pub hold : (j : ℕ) → j < J → getD holds j 0 ≡ model.holds S row A j
     pub need : (k : ℕ) → k < n → getD needs k 0 ≡ on (A k) (model.need S row A k)
-    pub no-need : (k : ℕ) → n ≤ k → k < 24 → getD needs k 0 ≡ 0
+    pub no-need : (k : ℕ) → n ≤ k → k < mostDoses → getD needs k 0 ≡ 0
 
-  module _ (asked : Asked) (x : List ℕ) (s : List Bool) (p : Raised rooms holds needs 1 24 s x) where
+  module _ (asked : Asked) (x : List ℕ) (s : List Bool) (p : Raised rooms holds needs 1 mostDoses s x) where
     abbrev pub share : ℕ → ℕ → ℕ
     share k j = cell x k j
 
@@ -50,24 +51,24 @@ module _ (S : Setting) (row : Row) (A : Doses) (rooms holds needs : List ℕ) wh
     R k = getD s k false && A k
 
     abbrev pub Q : ℕ → Bool
-    Q j = getD s (24 + j) false
+    Q j = getD s (mostDoses + j) false
 
-    dose-in : {k : ℕ} → k < n → k < 24
+    dose-in : {k : ℕ} → k < n → k < mostDoses
     dose-in l = omega (arith, asked .doses)
 
-    interval-in : {j : ℕ} → j < J → j < 47
+    interval-in : {j : ℕ} → j < J → j < mostIntervals
     interval-in l = omega (arith, asked .intervals)
 
     -- nothing is shared out past the intervals and the doses
     totals-got : (k : ℕ) → k < n → model.got S row A share k ≡ got x k
     totals-got k l =
-        sym (sum-past J 47 (asked .intervals) (λ j. share k j)
+        sym (sum-past J mostIntervals (asked .intervals) (λ j. share k j)
         (λ j h q. omega (arith, p .within .bounded .roomy k j (dose-in l) q, asked .no-interval k j (dose-in l) h q)))
         ∙ got-sum x k
 
     totals-given : (j : ℕ) → j < J → model.given S row A share j ≡ given x j
     totals-given j l =
-        sym (sum-past n 24 (asked .doses) (λ k. share k j)
+        sym (sum-past n mostDoses (asked .doses) (λ k. share k j)
         (λ k h q. omega (arith, p .within .bounded .roomy k j q (interval-in l), asked .no-dose k j h q (interval-in l))))
         ∙ given-sum x j
 
@@ -96,7 +97,7 @@ module _ (S : Setting) (row : Row) (A : Doses) (rooms holds needs : List ℕ) wh
     }
 
     -- every dose has what it needs: nothing is missing
-    pub none-missing : ((k : ℕ) → k < 24 → got x k ≡ getD needs k 0) → model.missing S row A share ≡ 0
+    pub none-missing : ((k : ℕ) → k < mostDoses → got x k ≡ getD needs k 0) → model.missing S row A share ≡ 0
     unfolding weight
     none-missing all = sum-congr n (λ k l. go k l (A k) refl) ∙ sum-zero n
       where
@@ -105,7 +106,7 @@ module _ (S : Setting) (row : Row) (A : Doses) (rooms holds needs : List ℕ) wh
         go k l true e = omega (arith, totals-got k l, all k (dose-in l), asked .need k l, on-yes (A k) (model.need S row A k) (rw e tt))
 
     -- a dose lacks something: so something is missing
-    pub some-missing : (k : ℕ) → k < 24 → got x k < getD needs k 0 → 0 < model.missing S row A share
+    pub some-missing : (k : ℕ) → k < mostDoses → got x k < getD needs k 0 → 0 < model.missing S row A share
     some-missing k h l = elim (compare≤ n k) [
       | inl g ↦ absurd (omega (arith, asked .no-need k g h))
       | inr g ↦

@@ -5,6 +5,7 @@ use mathlib.Core.Bool.{Bool, false}
 use mathlib.Core.Path.{_≡_, refl}
 use lib.ListN.{length, getD, set, replicate}
 use native.Mathlib.Omega.{arith}
+use Rattle.model.specs.Limits.{cells, mostDoses, mostIntervals}
 use Rattle.model.proofs.Sums.{sum-congr, sum-zero}
 use Rattle.steps.proofs.Tests.{not-both, known, alike}
 use Rattle.chains.specs.Chains.{cell, Seen, Unseen, got, given, Bounded, Kept, Exhausted, DoseUp, IntervalDown}
@@ -20,16 +21,16 @@ kept-drop p = record { more = λ k h. h; fewer = omega arith; doses = p .doses; 
 pub exhausted-same : {rooms holds x y : List ℕ} {least : ℕ} {s t : List Bool} → y ≡ x → Exhausted rooms holds least x s t → Exhausted rooms holds least y s t
 exhausted-same e p = rw e p
 
-pub given-kept : {s t : List Bool} {x y : List ℕ} (j : ℕ) → j < 47 → Kept s x t y → Seen s (24 + j) → given y j ≡ given x j
+pub given-kept : {s t : List Bool} {x y : List ℕ} (j : ℕ) → j < mostIntervals → Kept s x t y → Seen s (mostDoses + j) → given y j ≡ given x j
 unfolding given
-given-kept j hj k m = sum-congr 24 (λ e he. k .intervals e j he hj m)
+given-kept j hj k m = sum-congr mostDoses (λ e he. k .intervals e j he hj m)
 
 -- what is dead stays dead, and what a search in vain saw is dead too
 pub dead-step : {rooms holds x y : List ℕ} {least : ℕ} {s t : List Bool} → Kept s x t y → Exhausted rooms holds least y s t → Dead rooms holds least x s → Dead rooms holds least y t
 dead-step {s = s} k p d = record {
-  doses = λ e j he hj i h. known (getD s e false) (λ m. k .more (24 + j) (d .doses e j he hj m (omega (arith, k .doses e j he hj m)))) (λ m. p .doses e j he hj m i h);
-  spares = λ j hj i. known (getD s (24 + j) false) (λ m. omega (arith, d .spares j hj m, given-kept j hj k m)) (λ m. p .spares j hj m i);
-  intervals = λ e j he hj i h. known (getD s (24 + j) false) (λ m. k .more e (d .intervals e j he hj m (omega (arith, k .intervals e j he hj m)))) (λ m. p .intervals e j he hj m i h);
+  doses = λ e j he hj i h. known (getD s e false) (λ m. k .more (mostDoses + j) (d .doses e j he hj m (omega (arith, k .doses e j he hj m)))) (λ m. p .doses e j he hj m i h);
+  spares = λ j hj i. known (getD s (mostDoses + j) false) (λ m. omega (arith, d .spares j hj m, given-kept j hj k m)) (λ m. p .spares j hj m i);
+  intervals = λ e j he hj i h. known (getD s (mostDoses + j) false) (λ m. k .more e (d .intervals e j he hj m (omega (arith, k .intervals e j he hj m)))) (λ m. p .intervals e j he hj m i h);
 }
 
 pub all-false : (n k : ℕ) → Unseen (replicate n false) k
@@ -42,14 +43,14 @@ raised-none least off g = record {
   within = g;
   dead = record {
     doses = λ e j he hj i h. absurd (not-both i (off e));
-    spares = λ j hj i. absurd (not-both i (off (24 + j)));
-    intervals = λ e j he hj i h. absurd (not-both i (off (24 + j)));
+    spares = λ j hj i. absurd (not-both i (off (mostDoses + j)));
+    intervals = λ e j he hj i h. absurd (not-both i (off (mostDoses + j)));
   };
   met = λ k h. absurd (let z : ⊥ = omega arith in z);
 }
 
 pub raised-step : {rooms holds needs x y : List ℕ} {s t : List Bool} (least d : ℕ) → Raised rooms holds needs least d s x → DoseRaised rooms holds least d (getD needs d 0) s x t y
-    → d < 24 → Raised rooms holds needs least (d + 1) t y
+    → d < mostDoses → Raised rooms holds needs least (d + 1) t y
 raised-step least d p f hd = record {
   within = record {
     bounded = f .bounded;
@@ -61,25 +62,25 @@ raised-step least d p f hd = record {
 
 -- ---- first shares
 
-pub within-none : {rooms holds needs x : List ℕ} → ((i : ℕ) → i < 1128 → getD x i 0 ≡ 0) → Within rooms holds needs x
+pub within-none : {rooms holds needs x : List ℕ} → ((i : ℕ) → i < cells → getD x i 0 ≡ 0) → Within rooms holds needs x
 unfolding got given
 within-none {rooms} {holds} {needs} {x} z = record {
   bounded = record {
-    roomy = λ k j hk hj. omega (arith, z (k * 47 + j) (omega arith));
-    held = λ j hj. omega (arith, sum-congr 24 {f = λ k. cell x k j} {g = λ k. 0} (λ k hk. z (k * 47 + j) (omega arith)), sum-zero 24);
+    roomy = λ k j hk hj. omega (arith, z (k * mostIntervals + j) (omega arith));
+    held = λ j hj. omega (arith, sum-congr mostDoses {f = λ k. cell x k j} {g = λ k. 0} (λ k hk. z (k * mostIntervals + j) (omega arith)), sum-zero mostDoses);
   };
-  needed = λ k hk. omega (arith, sum-congr 47 {f = λ j. cell x k j} {g = λ j. 0} (λ j hj. z (k * 47 + j) (omega arith)), sum-zero 47);
+  needed = λ k hk. omega (arith, sum-congr mostIntervals {f = λ j. cell x k j} {g = λ j. 0} (λ j hj. z (k * mostIntervals + j) (omega arith)), sum-zero mostIntervals);
 }
 
 -- dose d takes nothing, or a more in interval j
 pub took-none : {rooms holds x : List ℕ} (d miss : ℕ) → Bounded rooms holds x → Took rooms holds d miss x miss x
 took-none d miss f = record { bounded = f; own = refl; others = λ k h q. refl }
 
-pub took-more : {rooms holds x : List ℕ} (d j miss a : ℕ) → d < 24 → j < 47 → length x ≡ 1128 → Bounded rooms holds x
-    → a ≤ miss → a ≤ cell rooms d j - cell x d j → a ≤ getD holds j 0 - given x j → Took rooms holds d miss x (miss - a) (set x (d * 47 + j) (cell x d j + a))
+pub took-more : {rooms holds x : List ℕ} (d j miss a : ℕ) → d < mostDoses → j < mostIntervals → length x ≡ cells → Bounded rooms holds x
+    → a ≤ miss → a ≤ cell rooms d j - cell x d j → a ≤ getD holds j 0 - given x j → Took rooms holds d miss x (miss - a) (set x (d * mostIntervals + j) (cell x d j + a))
 took-more {rooms} {holds} {x} d j miss a hd hj sized f h room spare =
     let down : IntervalDown rooms holds j a x x = interval-still j a f refl (omega (arith, f .held j hj)) in
-    let up : DoseUp rooms holds d a x (set x (d * 47 + j) (cell x d j + a)) = dose-write d j a hd hj sized down (omega (arith, f .roomy d j hd hj)) in
+    let up : DoseUp rooms holds d a x (set x (d * mostIntervals + j) (cell x d j + a)) = dose-write d j a hd hj sized down (omega (arith, f .roomy d j hd hj)) in
     record { bounded = up .bounded; own = omega (arith, up .own); others = up .others }
 
 -- shares stay within all bounds where a dose takes no more than it misses

@@ -4,10 +4,15 @@ use chains::from_dose;
 use chains::interval_total;
 use steps::larger;
 use steps::less;
+use steps::limits::CELLS;
+use steps::limits::MOST_DOSES;
+use steps::limits::MOST_INTERVALS;
+use steps::limits::MOST_MARKS;
 use steps::smaller;
 ghost use mathlib.Core.Path.{_≡_};
 ghost use Prim.Native.Nat.{ℕ, _<_, _≤_};
 ghost use lib.ListN.{length, getD};
+ghost use Rattle.model.specs.Limits.{cells, mostDoses, mostIntervals};
 ghost use Rattle.chains.specs.Chains.{got, Bounded, Sized};
 ghost use Rattle.share.specs.Share.{DoseRaised, Within, Took, Raised, Met};
 
@@ -16,12 +21,12 @@ fn raise_dose(
     shares: &mut [u64],
     rooms: &[u64],
     holds: &[u64],
-    dead: [bool; 72],
+    dead: [bool; MOST_MARKS],
     d: usize,
     need: u64,
     least: u64,
-) -> [bool; 72]
-    requires { ⌜ Sized (now shares) (now rooms) (now holds) × Bounded (now rooms) (now holds) (now shares) × (d < 24) × (1 ≤ least) × (got (now shares) d ≤ need) ⌝ }
+) -> [bool; MOST_MARKS]
+    requires { ⌜ Sized (now shares) (now rooms) (now holds) × Bounded (now rooms) (now holds) (now shares) × (d < mostDoses) × (1 ≤ least) × (got (now shares) d ≤ need) ⌝ }
     ensures { λ r. ⌜ DoseRaised (now (rooms .entry)) (now (holds .entry)) least d need dead (now (shares .entry)) r (now (shares .exit)) ⌝ }
 {
     if need < least {
@@ -47,13 +52,13 @@ fn raise_pass(
     holds: &[u64],
     needs: &[u64],
     least: u64,
-) -> [bool; 72]
-    requires { ⌜ Sized (now shares) (now rooms) (now holds) × Within (now rooms) (now holds) (now needs) (now shares) × (length (now needs) ≡ 24) × (1 ≤ least) ⌝ }
-    ensures { λ r. ⌜ Raised (now (rooms .entry)) (now (holds .entry)) (now (needs .entry)) least 24 r (now (shares .exit)) ⌝ }
+) -> [bool; MOST_MARKS]
+    requires { ⌜ Sized (now shares) (now rooms) (now holds) × Within (now rooms) (now holds) (now needs) (now shares) × (length (now needs) ≡ mostDoses) × (1 ≤ least) ⌝ }
+    ensures { λ r. ⌜ Raised (now (rooms .entry)) (now (holds .entry)) (now (needs .entry)) least mostDoses r (now (shares .exit)) ⌝ }
 {
-    let mut dead = [false; 72];
+    let mut dead = [false; MOST_MARKS];
     let mut d = 0;
-    while d < 24 {
+    while d < MOST_DOSES {
         let need = needs[d];
         let t = raise_dose(shares, rooms, holds, dead, d, need, least);
         dead = t;
@@ -64,9 +69,15 @@ fn raise_pass(
 
 // Passes with thresholds that fall to 1. The last is document 01's search: "no chain leads from a dose short of its need to an interval with
 // spare reserved time".
-fn raise(shares: &mut [u64], rooms: &[u64], holds: &[u64], needs: &[u64], top: u64) -> [bool; 72]
-    requires { ⌜ Sized (now shares) (now rooms) (now holds) × Within (now rooms) (now holds) (now needs) (now shares) × (length (now needs) ≡ 24) × (1 ≤ top) ⌝ }
-    ensures { λ r. ⌜ Raised (now (rooms .entry)) (now (holds .entry)) (now (needs .entry)) 1 24 r (now (shares .exit)) ⌝ }
+fn raise(
+    shares: &mut [u64],
+    rooms: &[u64],
+    holds: &[u64],
+    needs: &[u64],
+    top: u64,
+) -> [bool; MOST_MARKS]
+    requires { ⌜ Sized (now shares) (now rooms) (now holds) × Within (now rooms) (now holds) (now needs) (now shares) × (length (now needs) ≡ mostDoses) × (1 ≤ top) ⌝ }
+    ensures { λ r. ⌜ Raised (now (rooms .entry)) (now (holds .entry)) (now (needs .entry)) 1 mostDoses r (now (shares .exit)) ⌝ }
 {
     let mut least = top;
     let mut dead = raise_pass(shares, rooms, holds, needs, least);
@@ -87,10 +98,10 @@ fn first_share(
     j: usize,
     miss: u64,
 ) -> u64
-    requires { ⌜ Sized (now shares) (now rooms) (now holds) × Bounded (now rooms) (now holds) (now shares) × (d < 24) × (j < 47) ⌝ }
+    requires { ⌜ Sized (now shares) (now rooms) (now holds) × Bounded (now rooms) (now holds) (now shares) × (d < mostDoses) × (j < mostIntervals) ⌝ }
     ensures { λ r. ⌜ Took (now (rooms .entry)) (now (holds .entry)) d miss (now (shares .entry)) r (now (shares .exit)) ⌝ }
 {
-    let at = d * 47 + j;
+    let at = d * MOST_INTERVALS + j;
     if rooms[at] == 0 {
         return miss;
     }
@@ -104,16 +115,16 @@ fn first_share(
 
 // Dose d takes what it finds, earliest intervals first; a number past the doses takes nothing.
 fn first_shares(shares: &mut [u64], rooms: &[u64], holds: &[u64], needs: &[u64], d: usize)
-    requires { ⌜ Sized (now shares) (now rooms) (now holds) × Within (now rooms) (now holds) (now needs) (now shares) × (length (now needs) ≡ 24) ⌝ }
+    requires { ⌜ Sized (now shares) (now rooms) (now holds) × Within (now rooms) (now holds) (now needs) (now shares) × (length (now needs) ≡ mostDoses) ⌝ }
     ensures { λ r. ⌜ Within (now (rooms .entry)) (now (holds .entry)) (now (needs .entry)) (now (shares .exit)) ⌝ }
 {
-    if 24 <= d {
+    if MOST_DOSES <= d {
         return;
     }
     let need = needs[d];
     let mut miss = need - dose_total(shares, d, need);
     let mut j = 0;
-    while j < 47 {
+    while j < MOST_INTERVALS {
         if miss == 0 {
             return;
         }
@@ -124,11 +135,11 @@ fn first_shares(shares: &mut [u64], rooms: &[u64], holds: &[u64], needs: &[u64],
 
 // No shares.
 fn clear(shares: &mut [u64])
-    requires { ⌜ length (now shares) ≡ 1128 ⌝ }
-    ensures { λ r. ⌜ ((i : ℕ) → i < 1128 → getD (now (shares .exit)) i 0 ≡ 0) ⌝ }
+    requires { ⌜ length (now shares) ≡ cells ⌝ }
+    ensures { λ r. ⌜ ((i : ℕ) → i < cells → getD (now (shares .exit)) i 0 ≡ 0) ⌝ }
 {
     let mut i = 0;
-    while i < 1128 {
+    while i < CELLS {
         shares[i] = 0;
         i += 1;
     }
@@ -136,12 +147,12 @@ fn clear(shares: &mut [u64])
 
 // The most that a dose is short of, or 1: above it no pass would push anything.
 fn largest_shortage(shares: &[u64], needs: &[u64]) -> u64
-    requires { ⌜ (length (now shares) ≡ 1128) × (length (now needs) ≡ 24) × ((k : ℕ) → k < 24 → got (now shares) k ≤ getD (now needs) k 0) ⌝ }
+    requires { ⌜ (length (now shares) ≡ cells) × (length (now needs) ≡ mostDoses) × ((k : ℕ) → k < mostDoses → got (now shares) k ≤ getD (now needs) k 0) ⌝ }
     ensures { λ r. ⌜ 1 ≤ r ⌝ }
 {
     let mut most: u64 = 1;
     let mut k = 0;
-    while k < 24 {
+    while k < MOST_DOSES {
         let need = needs[k];
         most = larger(most, less(need, dose_total(shares, k, need)));
         k += 1;
@@ -155,14 +166,14 @@ pub fn find_shares(
     rooms: &[u64],
     holds: &[u64],
     needs: &[u64],
-    sequence: [usize; 24],
-) -> [bool; 72]
-    requires { ⌜ Sized (now shares) (now rooms) (now holds) × (length (now needs) ≡ 24) ⌝ }
-    ensures { λ r. ⌜ Raised (now (rooms .entry)) (now (holds .entry)) (now (needs .entry)) 1 24 r (now (shares .exit)) ⌝ }
+    sequence: [usize; MOST_DOSES],
+) -> [bool; MOST_MARKS]
+    requires { ⌜ Sized (now shares) (now rooms) (now holds) × (length (now needs) ≡ mostDoses) ⌝ }
+    ensures { λ r. ⌜ Raised (now (rooms .entry)) (now (holds .entry)) (now (needs .entry)) 1 mostDoses r (now (shares .exit)) ⌝ }
 {
     clear(shares);
     let mut i = 0;
-    while i < 24 {
+    while i < MOST_DOSES {
         let d = sequence[i];
         first_shares(shares, rooms, holds, needs, d);
         i += 1;
@@ -173,11 +184,11 @@ pub fn find_shares(
 
 // Whether every dose has what it needs.
 pub fn all_met(shares: &[u64], needs: &[u64]) -> bool
-    requires { ⌜ (length (now shares) ≡ 1128) × (length (now needs) ≡ 24) × ((k : ℕ) → k < 24 → got (now shares) k ≤ getD (now needs) k 0) ⌝ }
+    requires { ⌜ (length (now shares) ≡ cells) × (length (now needs) ≡ mostDoses) × ((k : ℕ) → k < mostDoses → got (now shares) k ≤ getD (now needs) k 0) ⌝ }
     ensures { λ r. ⌜ Met (now (needs .entry)) (now (shares .entry)) r ⌝ }
 {
     let mut k = 0;
-    while k < 24 {
+    while k < MOST_DOSES {
         let need = needs[k];
         if dose_total(shares, k, need) < need {
             return false;

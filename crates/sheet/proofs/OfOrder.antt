@@ -9,6 +9,7 @@ use borrow.Author.Tests.{lt-ltb, le-ltb}
 use lib.Arith.{digits-div, digits-mod}
 use lib.Dec.{ltb}
 use lib.ListN.{getD}
+use Rattle.model.specs.Limits.{mostDoses, mostIntervals}
 use Rattle.model.specs.Orders as model
 use Rattle.model.specs.Intervals.{intervalCount, settingOf}
 use Rattle.model.proofs.Fractions.{compare≤}
@@ -29,16 +30,16 @@ module _ (o : Order) (fit : Fit (asOrder o)) (s : Instants) (of : InstantsOf o s
   intervals-is : J ≡ intervalCount (asOrder o)
   intervals-is = eJ ∙ ap (λ (m : ℕ). m - 1) (count-is o s of)
 
-  few-spans : J ≤ 47
+  few-spans : J ≤ mostIntervals
   few-spans = omega (arith, intervals-is, few-intervals (asOrder o) fit)
 
-  active-at : (k j : ℕ) → k < 24 → j < 47 → activeOf active k j ≡ (ltb k (o .count) && (ltb j J && activeIn o s k j))
+  active-at : (k j : ℕ) → k < mostDoses → j < mostIntervals → activeOf active k j ≡ (ltb k (o .count) && (ltb j J && activeIn o s k j))
   active-at k j hk hj =
-      ha (k * 47 + j) (omega arith)
-      ∙ ap (λ (m : ℕ). ltb m (o .count) && (ltb ((k * 47 + j) % 47) J && activeIn o s m ((k * 47 + j) % 47))) (digits-div k hj)
+      ha (k * mostIntervals + j) (omega arith)
+      ∙ ap (λ (m : ℕ). ltb m (o .count) && (ltb ((k * mostIntervals + j) % mostIntervals) J && activeIn o s m ((k * mostIntervals + j) % mostIntervals))) (digits-div k hj)
       ∙ ap (λ (m : ℕ). ltb k (o .count) && (ltb m J && activeIn o s k m)) (digits-mod k hj)
 
-  span-at : (j : ℕ) → j < 47 → getD lens j 0 ≡ settingOf (asOrder o) .len j
+  span-at : (j : ℕ) → j < mostIntervals → getD lens j 0 ≡ settingOf (asOrder o) .len j
   span-at j q = hl .intervals j q ∙ span-is o s of j
 
   grams-at : (k : ℕ) → k < o .count → getD grams k 0 ≡ settingOf (asOrder o) .grams k
@@ -67,7 +68,7 @@ module _ (o : Order) (fit : Fit (asOrder o)) (s : Instants) (of : InstantsOf o s
     };
     few-doses = few-doses o fit;
     few-intervals = few-spans;
-    short = λ j. elim (compare≤ 47 j) [ inl h ↦ omega (arith, hl .past j h) | inr h ↦ omega (arith, span-at j h, instants-week (asOrder o) fit (j + 1)) ];
+    short = λ j. elim (compare≤ mostIntervals j) [ inl h ↦ omega (arith, hl .past j h) | inr h ↦ omega (arith, span-at j h, instants-week (asOrder o) fit (j + 1)) ];
     light = λ k. elim (compare≤ (o .count) k) [ inl h ↦ omega (arith, hg .past k h) | inr h ↦ omega (arith, grams-at k h, fit .light k (omega (arith, doses-is o))) ];
     heavy = λ k q. omega (arith, grams-at k q, fit .some-grams k (omega (arith, doses-is o)));
     no-grams = hg .past;

@@ -5,6 +5,7 @@ use mathlib.Core.List.{List}
 use Prim.Native.Nat.{ℕ, _+_, _-_, _*_, _/_, _%_, _<_, _≤_}
 use lib.Dec.{eqb, leb, ltb}
 use lib.ListN.{getD}
+use Rattle.model.specs.Limits.{cells, mostDoses, mostGrams, mostIntervals, week}
 use Rattle.model.specs.Sets.{Doses}
 use Rattle.model.specs.Classes.{Setting, Row}
 use Rattle.model.proofs.Same.{Agree}
@@ -21,13 +22,13 @@ pub record GramsIn (o : Order) (grams : List ℕ) : Type 0 where
 
 -- the length of each interval, and zeros past the array
 pub record LensIn (s : Instants) (lens : List ℕ) : Type 0 where
-  pub intervals : (j : ℕ) → j < 47 → getD lens j 0 ≡ spanIn s j
-  pub past : (j : ℕ) → 47 ≤ j → getD lens j 0 ≡ 0
+  pub intervals : (j : ℕ) → j < mostIntervals → getD lens j 0 ≡ spanIn s j
+  pub past : (j : ℕ) → mostIntervals ≤ j → getD lens j 0 ≡ 0
 
 -- dose k is active in interval j, at k * 47 + j: both are there, and the window reaches over the interval
 abbrev pub ActiveIn : Order → Instants → ℕ → List Bool → Type 0
 ActiveIn o s J active =
-    (i : ℕ) → i < 1128 → getD active i false ≡ (ltb (i / 47) (o .count) && (ltb (i % 47) J && activeIn o s (i / 47) (i % 47)))
+    (i : ℕ) → i < cells → getD active i false ≡ (ltb (i / mostIntervals) (o .count) && (ltb (i % mostIntervals) J && activeIn o s (i / mostIntervals) (i % mostIntervals)))
 
 -- ---- what any such arrays stand for
 
@@ -41,7 +42,7 @@ setsOf numbers i k = eqb (getD numbers k 0) (i + 1)
 
 -- dose k is active in interval j
 abbrev pub activeOf : List Bool → ℕ → ℕ → Bool
-activeOf active k j = getD active (k * 47 + j) false
+activeOf active k j = getD active (k * mostIntervals + j) false
 
 -- the fans of an array, interval by interval
 abbrev pub rowOf : List ℕ → Row
@@ -87,11 +88,11 @@ settingFrom n J active lens grams = record {
 -- and the intervals
 pub record Sheet (n J : ℕ) (release deadline instants : List ℕ) (active : List Bool) (lens grams : List ℕ) : Type 0 where
   pub same : Agree (settingBy n J release deadline grams instants) (settingFrom n J active lens grams)
-  pub few-doses : n ≤ 24
-  pub few-intervals : J ≤ 47
-  pub short : Below 604800 lens
-  pub light : Below 1000000 grams
+  pub few-doses : n ≤ mostDoses
+  pub few-intervals : J ≤ mostIntervals
+  pub short : Below week lens
+  pub light : Below mostGrams grams
   pub heavy : (k : ℕ) → k < n → 1 ≤ getD grams k 0
   pub no-grams : (k : ℕ) → n ≤ k → getD grams k 0 ≡ 0
-  pub no-dose : (k j : ℕ) → n ≤ k → k < 24 → j < 47 → activeOf active k j ≡ false
-  pub no-interval : (k j : ℕ) → k < 24 → J ≤ j → j < 47 → activeOf active k j ≡ false
+  pub no-dose : (k j : ℕ) → n ≤ k → k < mostDoses → j < mostIntervals → activeOf active k j ≡ false
+  pub no-interval : (k j : ℕ) → k < mostDoses → J ≤ j → j < mostIntervals → activeOf active k j ≡ false

@@ -8,9 +8,12 @@ use records::moment;
 use records::slot_at;
 use records::starts;
 use steps::index;
+use steps::limits::MOST_DOSES;
+use steps::limits::MOST_INSTANTS;
 ghost use mathlib.Core.Path.{_≡_};
 ghost use Prim.Native.Nat.{ℕ, _/_, _<_, _≤_};
 ghost use lib.ListN.{length, getD};
+ghost use Rattle.model.specs.Limits.{mostDoses, mostIntervals};
 ghost use Rattle.model.specs.Records.{recordSize};
 ghost use Rattle.model.specs.Stands.{Between};
 ghost use Rattle.records.specs.Held.{asClass, asSlot};
@@ -59,8 +62,8 @@ fn between(s: Slot, from: u32, to: u32) -> bool
 }
 
 // The interval in which a tick lies; the number of intervals where it lies in none.
-pub fn place_of(instants: &[u32; 48], intervals: usize, tick: u32) -> usize
-    requires { ⌜ intervals ≤ 47 ⌝ }
+pub fn place_of(instants: &[u32; MOST_INSTANTS], intervals: usize, tick: u32) -> usize
+    requires { ⌜ intervals ≤ mostIntervals ⌝ }
     ensures { λ r. ⌜ (r ≡ placeOf (now (instants .entry)) intervals tick) × (r ≤ intervals) ⌝ }
 {
     let mut j = 0;
@@ -74,8 +77,8 @@ pub fn place_of(instants: &[u32; 48], intervals: usize, tick: u32) -> usize
 }
 
 // "and lies within .. one interval".
-fn in_place(s: Slot, instants: &[u32; 48], intervals: usize) -> bool
-    requires { ⌜ intervals ≤ 47 ⌝ }
+fn in_place(s: Slot, instants: &[u32; MOST_INSTANTS], intervals: usize) -> bool
+    requires { ⌜ intervals ≤ mostIntervals ⌝ }
     ensures { λ t. ⌜ Tells t (InPlace (now (instants .entry)) intervals (asSlot s)) ⌝ }
 {
     let j = place_of(instants, intervals, s.start_tick);
@@ -88,16 +91,16 @@ fn in_place(s: Slot, instants: &[u32; 48], intervals: usize) -> bool
 fn slot_fits(
     s: Slot,
     plan: &[u8],
-    numbers: &[u32; 24],
-    release: &[u32; 24],
-    deadline: &[u32; 24],
-    grams: &[u32; 24],
-    instants: &[u32; 48],
+    numbers: &[u32; MOST_DOSES],
+    release: &[u32; MOST_DOSES],
+    deadline: &[u32; MOST_DOSES],
+    grams: &[u32; MOST_DOSES],
+    instants: &[u32; MOST_INSTANTS],
     doses: usize,
     intervals: usize,
     fans: u32,
 ) -> bool
-    requires { ⌜ (doses ≤ 24) × (intervals ≤ 47) × ((k : ℕ) → k < doses → (1 ≤ getD (now numbers) k 0) × (getD (now numbers) k 0 ≤ length (now plan) / recordSize)) ⌝ }
+    requires { ⌜ (doses ≤ mostDoses) × (intervals ≤ mostIntervals) × ((k : ℕ) → k < doses → (1 ≤ getD (now numbers) k 0) × (getD (now numbers) k 0 ≤ length (now plan) / recordSize)) ⌝ }
     ensures { λ t. ⌜ Tells t (SlotFits (sheet doses intervals fans (now (release .entry)) (now (deadline .entry)) (now (grams .entry)) (now (instants .entry))) (now (plan .entry)) (now (numbers .entry)) (asSlot s)) ⌝ }
 {
     let k = s.dose as usize;
@@ -122,16 +125,16 @@ fn slot_fits(
 pub fn slots_fit(
     plan: &[u8],
     p: usize,
-    numbers: &[u32; 24],
-    release: &[u32; 24],
-    deadline: &[u32; 24],
-    grams: &[u32; 24],
-    instants: &[u32; 48],
+    numbers: &[u32; MOST_DOSES],
+    release: &[u32; MOST_DOSES],
+    deadline: &[u32; MOST_DOSES],
+    grams: &[u32; MOST_DOSES],
+    instants: &[u32; MOST_INSTANTS],
     doses: usize,
     intervals: usize,
     fans: u32,
 ) -> bool
-    requires { ⌜ (doses ≤ 24) × (intervals ≤ 47) × ((k : ℕ) → k < doses → (1 ≤ getD (now numbers) k 0) × (getD (now numbers) k 0 ≤ length (now plan) / recordSize)) ⌝ }
+    requires { ⌜ (doses ≤ mostDoses) × (intervals ≤ mostIntervals) × ((k : ℕ) → k < doses → (1 ≤ getD (now numbers) k 0) × (getD (now numbers) k 0 ≤ length (now plan) / recordSize)) ⌝ }
     ensures { λ t. ⌜ Tells t ((i : ℕ) → i < length (now (plan .entry)) / recordSize → p ≤ i → SlotFits (sheet doses intervals fans (now (release .entry)) (now (deadline .entry)) (now (grams .entry)) (now (instants .entry))) (now (plan .entry)) (now (numbers .entry)) (slotIn (now (plan .entry)) i)) ⌝ }
 {
     let m = plan.len() / RECORD_SIZE;

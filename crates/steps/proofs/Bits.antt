@@ -4,12 +4,13 @@ use Prim.Native.Nat.{ℕ, _+_, _*_, _^_, _<_, _≤_}
 use native.Mathlib.Nat.{pow-suc, pow-le-pow-right}
 use native.Mathlib.Numerals.{add-one}
 use native.Mathlib.Omega.{arith}
+use Rattle.model.specs.Limits.{mostDoses}
 use Rattle.model.specs.Sets.{on, weight, Doses}
 use Rattle.steps.proofs.Tests.{on-most}
 use Rattle.steps.proofs.Loops.{sum-next}
 
 -- the bit of dose k
-pub bit-most : (k : ℕ) → k ≤ 24 → 2 ^ k ≤ 16777216
+pub bit-most : (k : ℕ) → k ≤ mostDoses → 2 ^ k ≤ 16777216
 bit-most k h = pow-le-pow-right {n = 2} (omega arith) h
 
 -- one bit more

@@ -1,4 +1,6 @@
 // Small steps on numbers and tests, each with what it comes to.
+pub mod limits; // limits.rt: limits by name
+
 ghost use mathlib.Core.Path.{_≡_};
 ghost use mathlib.Core.Bool.{not, _&&_};
 ghost use Prim.Native.Nat.{_+_, _-_, _*_, _<_, _≤_, min};

@@ -5,23 +5,25 @@ use records::ends;
 use records::slot_at;
 use records::starts;
 use steps::index;
+use steps::limits::MOST_DOSES;
 use steps::product;
 ghost use mathlib.Core.Path.{_≡_};
 ghost use Prim.Native.Nat.{ℕ, _/_, _<_, _≤_};
 ghost use lib.ListN.{length, getD};
+ghost use Rattle.model.specs.Limits.{mostDoses};
 ghost use Rattle.model.specs.Records.{recordSize};
 ghost use Rattle.records.specs.Plan.{slotIn};
 ghost use Rattle.clauses.specs.Tests.{Tells, Counts, unitsUpTo, needIn};
 
 // The sums are what the doses need.
 fn all_met(
-    sums: [u64; 24],
+    sums: [u64; MOST_DOSES],
     plan: &[u8],
-    numbers: &[u32; 24],
-    grams: &[u32; 24],
+    numbers: &[u32; MOST_DOSES],
+    grams: &[u32; MOST_DOSES],
     doses: usize,
 ) -> bool
-    requires { ⌜ (doses ≤ 24) × ((k : ℕ) → k < doses → (1 ≤ getD (now numbers) k 0) × (getD (now numbers) k 0 ≤ length (now plan) / recordSize)) ⌝ }
+    requires { ⌜ (doses ≤ mostDoses) × ((k : ℕ) → k < doses → (1 ≤ getD (now numbers) k 0) × (getD (now numbers) k 0 ≤ length (now plan) / recordSize)) ⌝ }
     ensures { λ t. ⌜ Tells t ((k : ℕ) → k < doses → getD sums k 0 ≡ needIn (now (grams .entry)) (now (plan .entry)) (now (numbers .entry)) k) ⌝ }
 {
     let mut k = 0;
@@ -42,15 +44,15 @@ fn all_met(
 pub fn units_met(
     plan: &[u8],
     p: usize,
-    numbers: &[u32; 24],
-    grams: &[u32; 24],
+    numbers: &[u32; MOST_DOSES],
+    grams: &[u32; MOST_DOSES],
     doses: usize,
 ) -> bool
-    requires { ⌜ (doses ≤ 24) × (p ≤ length (now plan) / recordSize) × ((k : ℕ) → k < doses → (1 ≤ getD (now numbers) k 0) × (getD (now numbers) k 0 ≤ length (now plan) / recordSize)) × ((i : ℕ) → i < length (now plan) / recordSize → p ≤ i → Counts doses (now plan) (now numbers) (slotIn (now plan) i)) ⌝ }
+    requires { ⌜ (doses ≤ mostDoses) × (p ≤ length (now plan) / recordSize) × ((k : ℕ) → k < doses → (1 ≤ getD (now numbers) k 0) × (getD (now numbers) k 0 ≤ length (now plan) / recordSize)) × ((i : ℕ) → i < length (now plan) / recordSize → p ≤ i → Counts doses (now plan) (now numbers) (slotIn (now plan) i)) ⌝ }
     ensures { λ t. ⌜ Tells t ((k : ℕ) → k < doses → unitsUpTo (now (plan .entry)) p (length (now (plan .entry)) / recordSize) k ≡ needIn (now (grams .entry)) (now (plan .entry)) (now (numbers .entry)) k) ⌝ }
 {
     let m = plan.len() / RECORD_SIZE;
-    let mut sums = [0u64; 24];
+    let mut sums = [0u64; MOST_DOSES];
     let mut i = p;
     while i < m {
         let s = slot_at(plan, i);

@@ -7,6 +7,7 @@ use native.Mathlib.Omega.{arith}
 use borrow.Author.Needs.{needs}
 use borrow.Fn.Kinds.{In}
 use borrow.Fn.PlainCycle.{Measures, is, falls, and}
+use Rattle.model.specs.Limits.{cells, mostDoses, mostIntervals, mostMarks}
 use Rattle.chains.specs.Chains.{unseenCount}
 use Rattle.chains.proofs.Laws.{falls-to, bounded-same}
 use Rattle.chains.proofs.Searches.{DoseTried, IntervalTried, tried-none, share-same, tried-up-to, tried-next, tried-in-vain, dose-stops, dose-fails, dose-fits, dose-pushes, interval-stops, interval-spares, interval-fails, interval-has, interval-pushes}
@@ -56,10 +57,10 @@ from-interval-claims t = (interval-total-reads.Asked, interval-total-reads.Learn
 
 -- the loop over the intervals
 abbrev from-dose-Inv-loop : from-dose-lts.InvT-loop
-from-dose-Inv-loop x₀ rooms holds d want least marks₀ j₀ x marks j = (j ≤ 47) × (length x ≡ 1128) × (length marks ≡ 72) × DoseTried rooms holds least d marks₀ x₀ marks x j
+from-dose-Inv-loop x₀ rooms holds d want least marks₀ j₀ x marks j = (j ≤ mostIntervals) × (length x ≡ cells) × (length marks ≡ mostMarks) × DoseTried rooms holds least d marks₀ x₀ marks x j
 
 abbrev from-dose-μ-loop : from-dose-lts.MeasureT-loop
-from-dose-μ-loop x₀ rooms holds d want least marks₀ j₀ x marks j = 47 - j
+from-dose-μ-loop x₀ rooms holds d want least marks₀ j₀ x marks j = mostIntervals - j
 
 from-dose-returns : (t : ℕ) → from-dose-lts.Need-returns (from-dose-claims t) (from-dose-at t) from-dose.Post from-dose-Inv-loop from-dose-μ-loop
 from-dose-returns t c =
@@ -109,7 +110,7 @@ from-dose-add-shares t c =
     let C = c .before .before .before .before .before .before .before .before .before .before .before .before .before .before .before .before .before .before .before .before in
     omega (
       arith,
-      c .before .before .before .before .before .before .before .before .before .before .before .before .shared-slice-known3 .given (C .args .d * 47 + c .before .before .before .before .before .before .before .before .before .before .before .before .before .before .loop .j),
+      c .before .before .before .before .before .before .before .before .before .before .before .before .shared-slice-known3 .given (C .args .d * mostIntervals + c .before .before .before .before .before .before .before .before .before .before .before .before .before .before .loop .j),
       dose-fits (C .args .want) (C .args .t4) (C .pre .1 .2) (C .pre .1 .1) (omega (arith, C .good .1 .1 .1 .0)) (c .before .before .before .before .before .before .before .before .before .before .before .before .before .before .before .if2 .left) (c .before .before .before .before .before .before .before .before .before .before .before .before .before .before .loop .inv .3) (omega arith) (c .before .before .before .before .before .before .before .before .before .before .less .ensures) (c .before .before .before .before .before .before .before .before .before .smaller .ensures) (c .before .before .before .before .before .from-interval .ensures) (c .before .if5 .taken),
     )
 
@@ -138,10 +139,10 @@ from-dose-returns-4 t c =
 
 -- the loop over the doses
 abbrev from-interval-Inv-loop : from-interval-lts.InvT-loop
-from-interval-Inv-loop x₀ rooms holds j want least marks₀ most spare d₀ x marks d = (d ≤ 24) × (length x ≡ 1128) × (length marks ≡ 72) × IntervalTried rooms holds least j marks₀ x₀ marks x d
+from-interval-Inv-loop x₀ rooms holds j want least marks₀ most spare d₀ x marks d = (d ≤ mostDoses) × (length x ≡ cells) × (length marks ≡ mostMarks) × IntervalTried rooms holds least j marks₀ x₀ marks x d
 
 abbrev from-interval-μ-loop : from-interval-lts.MeasureT-loop
-from-interval-μ-loop x₀ rooms holds j want least marks₀ most spare d₀ x marks d = 24 - d
+from-interval-μ-loop x₀ rooms holds j want least marks₀ most spare d₀ x marks d = mostDoses - d
 
 from-interval-returns : (t : ℕ) → from-interval-lts.Need-returns (from-interval-claims t) (from-interval-at t) from-interval.Post from-interval-Inv-loop from-interval-μ-loop
 from-interval-returns t c =
@@ -177,7 +178,7 @@ from-interval-from-dose-requires : (t : ℕ) → from-interval-lts.Need-from-dos
 from-interval-from-dose-requires t c κs =
     let C = c .before .before .before .before .before .before .before .before .before .before .before .before .before .before .before .before .before in
     let L = c .before .before .before .before .before .before .loop in (
-      falls-to (C .args .t4) (24 + C .args .j) t (omega arith) (c .before .before .before .before .before .before .before .before .before .before .before .before .if2 .left) (C .pre .0) (L .inv .3 .kept),
+      falls-to (C .args .t4) (mostDoses + C .args .j) t (omega arith) (c .before .before .before .before .before .before .before .before .before .before .before .before .if2 .left) (C .pre .0) (L .inv .3 .kept),
       (record { shares = L .inv .1; rooms = C .pre .1 .0 .rooms; holds = C .pre .1 .0 .holds }, bounded-same (C .pre .1 .1) (L .inv .3 .same), omega arith, C .pre .1 .3),
     )
 

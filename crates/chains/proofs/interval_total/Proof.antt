@@ -3,6 +3,7 @@ use Prim.Native.Nat.{ℕ, _≤_, _-_}
 use mathlib.Core.Path.{_≡_, ap, _∙_}
 use native.Mathlib.Omega.{arith}
 use borrow.Author.Needs.{needs}
+use Rattle.model.specs.Limits.{mostDoses}
 use Rattle.model.specs.Sets.{sum}
 use Rattle.chains.specs.Chains.{cell}
 use Rattle.chains.proofs.Laws.{part-step, given-sum}
@@ -11,10 +12,10 @@ use Rattle.chains.proofs.interval_total.Statement.{statement}
 use Rattle.chains.proofs.interval_total.Tie as tie
 
 abbrev Inv-loop : tie.InvT-loop
-Inv-loop x j holds s₀ d₀ s d = (d ≤ 24) × (s ≡ sum d (λ k. cell x k j))
+Inv-loop x j holds s₀ d₀ s d = (d ≤ mostDoses) × (s ≡ sum d (λ k. cell x k j))
 
 abbrev μ-loop : tie.MeasureT-loop
-μ-loop x j holds s₀ d₀ s d = 24 - d
+μ-loop x j holds s₀ d₀ s d = mostDoses - d
 
 loop-holds : tie.Need-loop-holds Inv-loop μ-loop
 loop-holds c = (omega arith, sum-none _)
@@ -32,7 +33,7 @@ shared-slice-read-sum : tie.Need-shared-slice-read-sum Inv-loop μ-loop
 shared-slice-read-sum c = search needs
 
 add-sum-2 : tie.Need-add-sum-2 Inv-loop μ-loop
-add-sum-2 c = omega (arith, part-step 24 (λ k. cell (c .before .before .before .args .shares .now) k (c .before .before .before .args .j)) (c .before .before .loop .d) (c .before .before .loop .sum) (omega arith) (c .before .before .loop .inv .1) .0, given-sum (c .before .before .before .args .shares .now) (c .before .before .before .args .j), c .before .before .before .pre .2)
+add-sum-2 c = omega (arith, part-step mostDoses (λ k. cell (c .before .before .before .args .shares .now) k (c .before .before .before .args .j)) (c .before .before .loop .d) (c .before .before .loop .sum) (omega arith) (c .before .before .loop .inv .1) .0, given-sum (c .before .before .before .args .shares .now) (c .before .before .before .args .j), c .before .before .before .pre .2)
 
 add-d : tie.Need-add-d Inv-loop μ-loop
 add-d c = search needs
@@ -41,10 +42,10 @@ loop-less : tie.Need-loop-less Inv-loop μ-loop
 loop-less c = search needs
 
 loop-again : tie.Need-loop-again Inv-loop μ-loop
-loop-again c = (omega arith, part-step 24 (λ k. cell (c .before .before .before .args .shares .now) k (c .before .before .before .args .j)) (c .before .before .loop .d) (c .before .before .loop .sum) (omega arith) (c .before .before .loop .inv .1) .1)
+loop-again c = (omega arith, part-step mostDoses (λ k. cell (c .before .before .before .args .shares .now) k (c .before .before .before .args .j)) (c .before .before .loop .d) (c .before .before .loop .sum) (omega arith) (c .before .before .loop .inv .1) .1)
 
 returns : tie.Need-returns Inv-loop μ-loop
-returns c = let e : c .before .loop .d ≡ 24 = omega arith in c .before .loop .inv .1 ∙ ap (λ (n : ℕ). sum n (λ k. cell (c .before .before .args .shares .now) k (c .before .before .args .j))) e ∙ given-sum (c .before .before .args .shares .now) (c .before .before .args .j)
+returns c = let e : c .before .loop .d ≡ mostDoses = omega arith in c .before .loop .inv .1 ∙ ap (λ (n : ℕ). sum n (λ k. cell (c .before .before .args .shares .now) k (c .before .before .args .j))) e ∙ given-sum (c .before .before .args .shares .now) (c .before .before .args .j)
 
 pub interval-total-spec : {M : Type 1} → statement M
 interval-total-spec =

@@ -2,16 +2,17 @@
 use Prim.Native.Nat.{ℕ, _+_, _≤_, _<_, _-_}
 use native.Mathlib.Omega.{arith}
 use borrow.Author.Needs.{needs}
+use Rattle.model.specs.Limits.{mostIntervals}
 use Rattle.chains.specs.Chains.{cell}
 use Rattle.steps.proofs.Tests.{alike}
 use Rattle.chains.proofs.next_way.Statement.{statement}
 use Rattle.chains.proofs.next_way.Tie as tie
 
 abbrev Inv-loop : tie.InvT-loop
-Inv-loop shares rooms d from least j₀ j = (from ≤ j) × (j ≤ 47) × ((i : ℕ) → from ≤ i → i < j → cell rooms d i < cell shares d i + least)
+Inv-loop shares rooms d from least j₀ j = (from ≤ j) × (j ≤ mostIntervals) × ((i : ℕ) → from ≤ i → i < j → cell rooms d i < cell shares d i + least)
 
 abbrev μ-loop : tie.MeasureT-loop
-μ-loop shares rooms d from least j₀ j = 47 - j
+μ-loop shares rooms d from least j₀ j = mostIntervals - j
 
 loop-holds : tie.Need-loop-holds Inv-loop μ-loop
 loop-holds c = (omega arith, omega arith, λ i g h. absurd (let z : ⊥ = omega arith in z))

@@ -6,15 +6,16 @@ use lib.Dec.{ltb}
 use lib.ListN.{length, getD, length-set}
 use native.Mathlib.Omega.{arith}
 use borrow.Author.Needs.{needs}
+use Rattle.model.specs.Limits.{mostDoses}
 use Rattle.steps.proofs.Loops.{stored}
 use Rattle.classes.proofs.every.Statement.{statement}
 use Rattle.classes.proofs.every.Tie as tie
 
 abbrev Inv-loop : tie.InvT-loop
-Inv-loop doses all₀ k₀ all k = (k ≤ 24) × (length all ≡ 24) × ((m : ℕ) → m < k → getD all m false ≡ ltb m doses)
+Inv-loop doses all₀ k₀ all k = (k ≤ mostDoses) × (length all ≡ mostDoses) × ((m : ℕ) → m < k → getD all m false ≡ ltb m doses)
 
 abbrev μ-loop : tie.MeasureT-loop
-μ-loop doses all₀ k₀ all k = 24 - k
+μ-loop doses all₀ k₀ all k = mostDoses - k
 
 loop-holds : tie.Need-loop-holds Inv-loop μ-loop
 loop-holds c = (omega arith, search needs, λ k h. absurd (omega arith))

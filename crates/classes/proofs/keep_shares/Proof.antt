@@ -5,16 +5,17 @@ use mathlib.Core.Bool.{false}
 use lib.ListN.{length, getD, length-set}
 use native.Mathlib.Omega.{arith}
 use borrow.Author.Needs.{needs}
+use Rattle.model.specs.Limits.{cells, mostIntervals}
 use Rattle.classes.specs.Phase.{choose}
 use Rattle.steps.proofs.Loops.{stored, unreached}
 use Rattle.classes.proofs.keep_shares.Statement.{statement}
 use Rattle.classes.proofs.keep_shares.Tie as tie
 
 abbrev Inv-loop : tie.InvT-loop
-Inv-loop shares₀ x members i₀ shares i = (i ≤ 1128) × (length shares ≡ 1128) × ((m : ℕ) → m < i → getD shares m 0 ≡ choose (getD members (m / 47) false) (getD x m 0) (getD shares₀ m 0)) × ((m : ℕ) → i ≤ m → getD shares m 0 ≡ getD shares₀ m 0)
+Inv-loop shares₀ x members i₀ shares i = (i ≤ cells) × (length shares ≡ cells) × ((m : ℕ) → m < i → getD shares m 0 ≡ choose (getD members (m / mostIntervals) false) (getD x m 0) (getD shares₀ m 0)) × ((m : ℕ) → i ≤ m → getD shares m 0 ≡ getD shares₀ m 0)
 
 abbrev μ-loop : tie.MeasureT-loop
-μ-loop shares₀ x members i₀ shares i = 1128 - i
+μ-loop shares₀ x members i₀ shares i = cells - i
 
 loop-holds : tie.Need-loop-holds Inv-loop μ-loop
 loop-holds c = (omega arith, c .before .before .pre .0, λ k h. absurd (omega arith), λ k h. refl)
@@ -53,7 +54,7 @@ loop-again : tie.Need-loop-again Inv-loop μ-loop
 loop-again c =
     let A = c .before .before .before .before .before .before .before .args in
     let L = c .before .before .before .before .loop in
-    (omega arith, simp length-set (L .inv .1), stored 0 (λ i. choose (getD (A .t3) (i / 47) false) (getD (A .x .now) i 0) (getD (A .shares .now) i 0)) (L .shares) (L .i) _ (omega arith) (L .inv .2) (c .choose-share .ensures ∙ ap (λ (v : ℕ). choose (getD (A .t3) (L .i / 47) false) (getD (A .x .now) (L .i) 0) v) (L .inv .3 (L .i) (omega arith))), unreached 0 (λ i. getD (A .shares .now) i 0) (L .shares) (L .i) _ (L .inv .3))
+    (omega arith, simp length-set (L .inv .1), stored 0 (λ i. choose (getD (A .t3) (i / mostIntervals) false) (getD (A .x .now) i 0) (getD (A .shares .now) i 0)) (L .shares) (L .i) _ (omega arith) (L .inv .2) (c .choose-share .ensures ∙ ap (λ (v : ℕ). choose (getD (A .t3) (L .i / mostIntervals) false) (getD (A .x .now) (L .i) 0) v) (L .inv .3 (L .i) (omega arith))), unreached 0 (λ i. getD (A .shares .now) i 0) (L .shares) (L .i) _ (L .inv .3))
 
 same-length : tie.Need-same-length Inv-loop μ-loop
 same-length c = search needs

@@ -5,15 +5,16 @@ use mathlib.Core.Bool.{false, not, _&&_}
 use lib.ListN.{length, getD, length-set}
 use native.Mathlib.Omega.{arith}
 use borrow.Author.Needs.{needs}
+use Rattle.model.specs.Limits.{mostDoses}
 use Rattle.steps.proofs.Loops.{stored}
 use Rattle.classes.proofs.left_of.Statement.{statement}
 use Rattle.classes.proofs.left_of.Tie as tie
 
 abbrev Inv-loop : tie.InvT-loop
-Inv-loop remaining members left₀ k₀ left k = (k ≤ 24) × (length left ≡ 24) × ((m : ℕ) → m < k → getD left m false ≡ (getD remaining m false && not (getD members m false)))
+Inv-loop remaining members left₀ k₀ left k = (k ≤ mostDoses) × (length left ≡ mostDoses) × ((m : ℕ) → m < k → getD left m false ≡ (getD remaining m false && not (getD members m false)))
 
 abbrev μ-loop : tie.MeasureT-loop
-μ-loop remaining members left₀ k₀ left k = 24 - k
+μ-loop remaining members left₀ k₀ left k = mostDoses - k
 
 loop-holds : tie.Need-loop-holds Inv-loop μ-loop
 loop-holds c = (omega arith, search needs, λ k h. absurd (omega arith))

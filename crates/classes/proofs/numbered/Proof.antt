@@ -5,16 +5,17 @@ use mathlib.Core.Bool.{false}
 use lib.ListN.{length, getD, length-set}
 use native.Mathlib.Omega.{arith}
 use borrow.Author.Needs.{needs}
+use Rattle.model.specs.Limits.{mostDoses}
 use Rattle.classes.specs.Phase.{choose}
 use Rattle.steps.proofs.Loops.{stored}
 use Rattle.classes.proofs.numbered.Statement.{statement}
 use Rattle.classes.proofs.numbered.Tie as tie
 
 abbrev Inv-loop : tie.InvT-loop
-Inv-loop class before members numbers₀ k₀ numbers k = (k ≤ 24) × (length numbers ≡ 24) × ((m : ℕ) → m < k → getD numbers m 0 ≡ choose (getD members m false) class (getD before m 0))
+Inv-loop class before members numbers₀ k₀ numbers k = (k ≤ mostDoses) × (length numbers ≡ mostDoses) × ((m : ℕ) → m < k → getD numbers m 0 ≡ choose (getD members m false) class (getD before m 0))
 
 abbrev μ-loop : tie.MeasureT-loop
-μ-loop class before members numbers₀ k₀ numbers k = 24 - k
+μ-loop class before members numbers₀ k₀ numbers k = mostDoses - k
 
 loop-holds : tie.Need-loop-holds Inv-loop μ-loop
 loop-holds c = (omega arith, search needs, λ k h. absurd (omega arith))

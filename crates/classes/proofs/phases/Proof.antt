@@ -4,6 +4,7 @@ use mathlib.Core.Path.{_≡_}
 use lib.ListN.{length}
 use native.Mathlib.Omega.{arith}
 use borrow.Author.Needs.{needs}
+use Rattle.model.specs.Limits.{cells}
 use Rattle.sheet.specs.Sheet.{settingFrom}
 use Rattle.classes.specs.Phase.{SoFar}
 use Rattle.classes.proofs.OnePhase.{so-far-start}
@@ -11,7 +12,7 @@ use Rattle.classes.proofs.phases.Statement.{statement}
 use Rattle.classes.proofs.phases.Tie as tie
 
 abbrev Inv-loop : tie.InvT-loop
-Inv-loop shares₀ table₀ release deadline instants active lens grams doses intervals fans sequence tally₀ shares table tally = (length shares ≡ 1128) × (tally .classed ≤ doses) × SoFar (settingFrom doses intervals active lens grams) (λ j. fans) tally table shares
+Inv-loop shares₀ table₀ release deadline instants active lens grams doses intervals fans sequence tally₀ shares table tally = (length shares ≡ cells) × (tally .classed ≤ doses) × SoFar (settingFrom doses intervals active lens grams) (λ j. fans) tally table shares
 
 abbrev μ-loop : tie.MeasureT-loop
 μ-loop shares₀ table₀ release deadline instants active lens grams doses intervals fans sequence tally₀ shares table tally = doses - tally .classed

@@ -1,14 +1,15 @@
 -- `class_share` meets its contract: the index rises to 24, where the loop ends.
 use Prim.Native.Nat.{_≤_, _-_}
 use borrow.Author.Needs.{needs}
+use Rattle.model.specs.Limits.{mostDoses}
 use Rattle.classes_seen.proofs.class_share.Statement.{statement}
 use Rattle.classes_seen.proofs.class_share.Tie as tie
 
 abbrev Inv-loop : tie.InvT-loop
-Inv-loop t shares i j sum₀ k₀ sum k = k ≤ 24
+Inv-loop t shares i j sum₀ k₀ sum k = k ≤ mostDoses
 
 abbrev μ-loop : tie.MeasureT-loop
-μ-loop t shares i j sum₀ k₀ sum k = 24 - k
+μ-loop t shares i j sum₀ k₀ sum k = mostDoses - k
 
 loop-holds : tie.Need-loop-holds Inv-loop μ-loop
 loop-holds c = search needs

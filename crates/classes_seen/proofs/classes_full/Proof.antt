@@ -1,14 +1,15 @@
 -- `classes_full` meets its contract: the index rises to 1,128, where the loop ends.
 use Prim.Native.Nat.{_≤_, _-_}
 use borrow.Author.Needs.{needs}
+use Rattle.model.specs.Limits.{cells}
 use Rattle.classes_seen.proofs.classes_full.Statement.{statement}
 use Rattle.classes_seen.proofs.classes_full.Tie as tie
 
 abbrev Inv-loop : tie.InvT-loop
-Inv-loop s t shares table at₀ at = at ≤ 1128
+Inv-loop s t shares table at₀ at = at ≤ cells
 
 abbrev μ-loop : tie.MeasureT-loop
-μ-loop s t shares table at₀ at = 1128 - at
+μ-loop s t shares table at₀ at = cells - at
 
 loop-holds : tie.Need-loop-holds Inv-loop μ-loop
 loop-holds c = search needs

@@ -1,14 +1,15 @@
 -- `dose_served` meets its contract: the index rises to 47, where the loop ends.
 use Prim.Native.Nat.{_≤_, _-_}
 use borrow.Author.Needs.{needs}
+use Rattle.model.specs.Limits.{mostIntervals}
 use Rattle.classes_seen.proofs.dose_served.Statement.{statement}
 use Rattle.classes_seen.proofs.dose_served.Tie as tie
 
 abbrev Inv-loop : tie.InvT-loop
-Inv-loop o s t shares k i grams sum₀ j₀ sum j = j ≤ 47
+Inv-loop o s t shares k i grams sum₀ j₀ sum j = j ≤ mostIntervals
 
 abbrev μ-loop : tie.MeasureT-loop
-μ-loop o s t shares k i grams sum₀ j₀ sum j = 47 - j
+μ-loop o s t shares k i grams sum₀ j₀ sum j = mostIntervals - j
 
 class-of-requires : tie.Need-class-of-requires Inv-loop μ-loop
 class-of-requires c κs = search needs

@@ -7,13 +7,14 @@ use Prim.Native.Nat.{ℕ, _-_, _≤_, _<_, min}
 use native.Mathlib.Omega.{arith}
 use lib.Dec.{T, leb→le}
 use lib.ListN.{length}
+use Rattle.model.specs.Limits.{planRoom}
 use Rattle.model.specs.Sets.{Doses, sum}
 use Rattle.model.specs.Orders.{Order}
 use Rattle.model.specs.Classes.{Setting, Row, Classes, free}
 use Rattle.model.specs.Intervals.{settingOf, fansPresent}
 use Rattle.model.specs.Shares.{need, room, Valid}
 use Rattle.model.specs.Layout.{slotsOf}
-use Rattle.model.specs.Answers.{done, Accepts, Planned, ValidShares, planBytes, planRoom, overwritten, Plans}
+use Rattle.model.specs.Answers.{done, Accepts, Planned, ValidShares, planBytes, overwritten, Plans}
 use Rattle.model.specs.CaseTests.{allBelow, most, forcedTest}
 use Rattle.model.proofs.Sums.{le-sum, sum-le-without}
 use Rattle.model.proofs.Sets.{Alike}

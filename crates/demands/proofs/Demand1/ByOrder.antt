@@ -4,8 +4,9 @@ use mathlib.Core.List.{List}
 use Prim.Native.Nat.{ℕ, _≤_}
 use native.Mathlib.Omega.{arith}
 use lib.ListN.{length}
+use Rattle.model.specs.Limits.{planRoom}
 use Rattle.model.specs.Orders.{Order}
-use Rattle.model.specs.Answers.{Answer, refusal, Refuses, Accepts, Planned, Plans, Judges, Drawn, Draws, planRoom}
+use Rattle.model.specs.Answers.{Answer, refusal, Refuses, Accepts, Planned, Plans, Judges, Drawn, Draws}
 
 -- the order is refused, or it is accepted and the answer has another number and no place
 pub data OfOrder (order : List ℕ) : Answer → Type 0 where

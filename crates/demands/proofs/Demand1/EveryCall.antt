@@ -5,10 +5,11 @@ use mathlib.Core.List.{List}
 use Prim.Native.Nat.{ℕ, _≤_}
 use native.Mathlib.Omega.{arith}
 use lib.ListN.{length}
+use Rattle.model.specs.Limits.{planRoom, week}
 use Rattle.model.specs.Records.{Reading, read, refused}
 use Rattle.model.specs.Orders.{Order, readOrder}
 use Rattle.model.specs.Intervals.{settingOf}
-use Rattle.model.specs.Answers.{Accepts, Answer, Drawn, Draws, Judges, Moves, Pen, Planned, Plans, Refuses, done, planRoom, unread, week}
+use Rattle.model.specs.Answers.{Accepts, Answer, Drawn, Draws, Judges, Moves, Pen, Planned, Plans, Refuses, done, unread}
 use Rattle.model.proofs.Fractions.{compare≤}
 use Rattle.model.proofs.Orders.{read-fits}
 use Rattle.demands.proofs.Existence.{classes-of, shares-of}

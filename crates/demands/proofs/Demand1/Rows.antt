@@ -5,11 +5,12 @@ use mathlib.Core.List.{List}
 use Prim.Native.Nat.{ℕ, _≤_, _<_}
 use lib.ListN.{length}
 use native.Mathlib.Omega.{arith}
+use Rattle.model.specs.Limits.{planRoom, week}
 use Rattle.model.specs.Records.{read}
 use Rattle.model.specs.Orders.{Order, readOrder, Dose, restOf}
 use Rattle.model.specs.Intervals.{settingOf}
 use Rattle.model.specs.Stands.{Stands}
-use Rattle.model.specs.Answers.{Accepts, Answer, Drawn, Draws, Judges, Planned, Plans, Refuses, above, planRoom, refusal, tooFast, unread, week}
+use Rattle.model.specs.Answers.{Accepts, Answer, Drawn, Draws, Judges, Planned, Plans, Refuses, above, refusal, tooFast, unread}
 use Rattle.model.proofs.Given.{Given, given-exactly, Overlap, blank, kind, many-doses, not-one-fans, overlapping, range, wrong-length, wrong-record}
 use Rattle.demands.proofs.Demand2.Refusing.{TooFast}
 use Rattle.demands.proofs.Demand1.ByOrder.{OfOrder, order-accepted, order-refused}

@@ -8,13 +8,14 @@ use Prim.Native.Nat.{ℕ, _*_, _<_, _≤_, zero, suc, _+_, _^_}
 use lib.ListN.{length}
 use native.Mathlib.Nat.{two-pow-succ}
 use native.Mathlib.Omega.{arith}
+use Rattle.model.specs.Limits.{planRoom}
 use Rattle.model.specs.Sets.{Doses, on, sum, weight}
 use Rattle.model.specs.Records.{read}
 use Rattle.model.specs.Orders.{Order, readOrder}
 use Rattle.model.specs.Classes.{P, W, setNumber}
 use Rattle.model.specs.Intervals.{fansPresent, settingOf}
 use Rattle.model.specs.FreePlans.{FreePlan}
-use Rattle.model.specs.Answers.{Answer, Drawn, Draws, FirstClass, Judges, Moves, Pen, Planned, Plans, planRoom}
+use Rattle.model.specs.Answers.{Answer, Drawn, Draws, FirstClass, Judges, Moves, Pen, Planned, Plans}
 use Rattle.model.proofs.Sets.{Alike, weight-alike, on-below}
 use Rattle.model.proofs.FanTime.{P-alike}
 use Rattle.model.proofs.NextClass.{next-transport}

@@ -5,9 +5,10 @@ use Prim.Native.Nat.{ℕ, _+_, _*_, _-_, _≤_}
 use native.Mathlib.Omega.{arith}
 use lib.ListN.{drop, getD, length, length-append, length-drop, take}
 use lib.Seq.{getD-append-add, getD-drop, take-append-seam}
+use Rattle.model.specs.Limits.{planRoom}
 use Rattle.model.specs.Orders.{Order}
 use Rattle.model.specs.Stands.{Stands}
-use Rattle.model.specs.Answers.{Accepts, Planned, Plans, done, no-room, overwritten, planBytes, planRoom, plans, refuses}
+use Rattle.model.specs.Answers.{Accepts, Planned, Plans, done, no-room, overwritten, planBytes, plans, refuses}
 use Rattle.model.proofs.Orders.{read-fits}
 use Rattle.model.proofs.Planner.{plan-length, plan-room}
 use Rattle.demands.proofs.Written.{plan-stands}

@@ -2,6 +2,7 @@
 use mathlib.Core.Path.{sym, _∙_}
 use Prim.Native.Nat.{_+_, _*_}
 use lib.ListN.{getD}
+use Rattle.model.specs.Limits.{mostIntervals}
 use Rattle.layout.proofs.Arrays.{share-mine, share-other}
 use borrow.Author.Needs.{needs}
 use Rattle.layout.proofs.share_of.Statement.{statement}
@@ -28,12 +29,12 @@ shared-slice-read-result c = search needs
 returns : tie.Need-returns
 returns c =
     let A = c .before .before .before .before .args in
-    share-mine (A .class) (A .i + 1) (getD (A .shares .now) (A .k * 47 + A .j) 0) (sym (c .before .before .index .ensures .0) ∙ c .before .if1 .taken)
+    share-mine (A .class) (A .i + 1) (getD (A .shares .now) (A .k * mostIntervals + A .j) 0) (sym (c .before .before .index .ensures .0) ∙ c .before .if1 .taken)
 
 returns-2 : tie.Need-returns-2
 returns-2 c =
     let A = c .before .before .before .args in
-    share-other (A .class) (A .i + 1) (getD (A .shares .now) (A .k * 47 + A .j) 0) (λ e. c .if1 .left (c .before .index .ensures .0 ∙ e))
+    share-other (A .class) (A .i + 1) (getD (A .shares .now) (A .k * mostIntervals + A .j) 0) (λ e. c .if1 .left (c .before .index .ensures .0 ∙ e))
 
 pub share-of-spec : {M : Type 1} → statement M
 share-of-spec =

@@ -6,6 +6,7 @@ use Prim.Native.Nat.{ℕ, _-_, _<_, _≤_}
 use native.Mathlib.Omega.{arith}
 use borrow.Author.Needs.{needs}
 use lib.ListN.{length, getD}
+use Rattle.model.specs.Limits.{mostIntervals}
 use Rattle.model.specs.Sets.{on}
 use Rattle.sheet.specs.Sheet.{setOf, reaches}
 use Rattle.sheet.proofs.Laws.{all-same}
@@ -30,7 +31,7 @@ inside-if false e = e
 
 -- the first k doses are counted
 pub record CountedTo (release deadline instants : List ℕ) (set : List Bool) (J k : ℕ) (counts : List ℕ) : Type 0 where
-  pub size : length counts ≡ 47
+  pub size : length counts ≡ mostIntervals
   pub active : (j : ℕ) → j < J → getD counts j 0 ≡ countIn release deadline instants k set j
   pub few : (j : ℕ) → j < J → getD counts j 0 ≤ k
 
@@ -43,7 +44,7 @@ abbrev μ-loop : tie.MeasureT-loop
 loop-holds : tie.Need-loop-holds Inv-loop μ-loop
 loop-holds c = (
   omega arith,
-  record { size = refl; active = λ j l. all-same {A = ℕ} 47 j 0 ∙ weight-none _ _; few = λ j l. omega (arith, all-same {A = ℕ} 47 j 0) },
+  record { size = refl; active = λ j l. all-same {A = ℕ} mostIntervals j 0 ∙ weight-none _ _; few = λ j l. omega (arith, all-same {A = ℕ} mostIntervals j 0) },
 )
 
 array-read-if1 : tie.Need-array-read-if1 Inv-loop μ-loop

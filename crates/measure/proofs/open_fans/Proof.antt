@@ -5,6 +5,7 @@ use Prim.Native.Nat.{ℕ, _<_, _≤_, _-_, min}
 use native.Mathlib.Omega.{arith}
 use borrow.Author.Needs.{needs}
 use lib.ListN.{length, getD, length-set}
+use Rattle.model.specs.Limits.{mostIntervals}
 use Rattle.sheet.proofs.Laws.{all-same}
 use Rattle.steps.proofs.Loops.{stored, unreached}
 use Rattle.steps.proofs.Tests.{below-or}
@@ -13,7 +14,7 @@ use Rattle.measure.proofs.open_fans.Tie as tie
 
 -- up to interval j the smaller is taken
 pub record SmallerTo (counts free : List ℕ) (j : ℕ) (reserved : List ℕ) : Type 0 where
-  pub size : length reserved ≡ 47
+  pub size : length reserved ≡ mostIntervals
   pub passed : (m : ℕ) → m < j → getD reserved m 0 ≡ min (getD counts m 0) (getD free m 0)
   pub ahead : (m : ℕ) → j ≤ m → getD reserved m 0 ≡ 0
 
@@ -27,7 +28,7 @@ active-row-requires : tie.Need-active-row-requires Inv-loop μ-loop
 active-row-requires c κs = search needs
 
 loop-holds : tie.Need-loop-holds Inv-loop μ-loop
-loop-holds c = (omega arith, record { size = refl; passed = λ m h. absurd (omega arith); ahead = λ m h. all-same {A = ℕ} 47 m 0 })
+loop-holds c = (omega arith, record { size = refl; passed = λ m h. absurd (omega arith); ahead = λ m h. all-same {A = ℕ} mostIntervals m 0 })
 
 mul-smaller : tie.Need-mul-smaller Inv-loop μ-loop
 mul-smaller c = search needs

@@ -6,16 +6,17 @@ use lib.Dec.{eqb}
 use lib.ListN.{length, getD, length-set}
 use native.Mathlib.Omega.{arith}
 use borrow.Author.Needs.{needs}
+use Rattle.model.specs.Limits.{mostDoses}
 use Rattle.sheet.specs.Sheet.{setsOf}
 use Rattle.steps.proofs.Loops.{stored}
 use Rattle.measure.proofs.set_of.Statement.{statement}
 use Rattle.measure.proofs.set_of.Tie as tie
 
 abbrev Inv-loop : tie.InvT-loop
-Inv-loop numbers i set₀ k₀ set k = (k ≤ 24) × (length set ≡ 24) × ((m : ℕ) → m < k → getD set m false ≡ setsOf numbers i m)
+Inv-loop numbers i set₀ k₀ set k = (k ≤ mostDoses) × (length set ≡ mostDoses) × ((m : ℕ) → m < k → getD set m false ≡ setsOf numbers i m)
 
 abbrev μ-loop : tie.MeasureT-loop
-μ-loop numbers i set₀ k₀ set k = 24 - k
+μ-loop numbers i set₀ k₀ set k = mostDoses - k
 
 loop-holds : tie.Need-loop-holds Inv-loop μ-loop
 loop-holds c = (omega arith, search needs, λ m h. absurd (omega arith))

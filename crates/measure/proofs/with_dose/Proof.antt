@@ -6,6 +6,7 @@ use Prim.Native.Nat.{ℕ, _+_, _-_, _<_, _≤_}
 use native.Mathlib.Omega.{arith}
 use borrow.Author.Needs.{needs}
 use lib.ListN.{length, getD, length-set}
+use Rattle.model.specs.Limits.{mostIntervals}
 use Rattle.model.specs.Sets.{on}
 use Rattle.sheet.specs.Sheet.{within}
 use Rattle.steps.proofs.Loops.{stored, unreached}
@@ -18,7 +19,7 @@ counted before release deadline instants m = getD before m 0 + on (within releas
 
 -- up to interval j the dose is counted
 pub record CountedTo (before : List ℕ) (release deadline : ℕ) (instants counts : List ℕ) (j : ℕ) : Type 0 where
-  pub size : length counts ≡ 47
+  pub size : length counts ≡ mostIntervals
   pub passed : (m : ℕ) → m < j → getD counts m 0 ≡ counted before release deadline instants m
   pub ahead : (m : ℕ) → j ≤ m → getD counts m 0 ≡ getD before m 0
 

@@ -1,11 +1,12 @@
 -- `show_doses` meets its contract: every index is below the count, which is at most 24.
 use Prim.Native.Nat.{_≤_, _-_}
 use borrow.Author.Needs.{needs}
+use Rattle.model.specs.Limits.{mostDoses}
 use Rattle.orders_seen.proofs.show_doses.Statement.{statement}
 use Rattle.orders_seen.proofs.show_doses.Tie as tie
 
 abbrev Inv-loop : tie.InvT-loop
-Inv-loop o n k₀ k = (k ≤ n) × (n ≤ 24)
+Inv-loop o n k₀ k = (k ≤ n) × (n ≤ mostDoses)
 
 abbrev μ-loop : tie.MeasureT-loop
 μ-loop o n k₀ k = n - k

@@ -1,14 +1,15 @@
 -- `show_spans` meets its contract: the order has at most 24 doses, and the index rises to 47, where the loop ends.
 use Prim.Native.Nat.{_≤_, _-_}
 use borrow.Author.Needs.{needs}
+use Rattle.model.specs.Limits.{mostIntervals}
 use Rattle.orders_seen.proofs.show_spans.Statement.{statement}
 use Rattle.orders_seen.proofs.show_spans.Tie as tie
 
 abbrev Inv-loop : tie.InvT-loop
-Inv-loop s j₀ j = j ≤ 47
+Inv-loop s j₀ j = j ≤ mostIntervals
 
 abbrev μ-loop : tie.MeasureT-loop
-μ-loop s j₀ j = 47 - j
+μ-loop s j₀ j = mostIntervals - j
 
 instants-of-requires : tie.Need-instants-of-requires Inv-loop μ-loop
 instants-of-requires c κs = search needs

@@ -4,6 +4,7 @@ use native.Mathlib.Omega.{arith}
 use borrow.Author.Count.{below-more}
 use borrow.Author.Needs.{needs}
 use lib.ListN.{getD-replicate}
+use Rattle.model.specs.Limits.{mostIntervals}
 use Rattle.sheet.specs.Sheet.{setsOf}
 use Rattle.measure.proofs.Free.{Frees, frees-all}
 use Rattle.records.specs.Plan.{classIn}
@@ -24,7 +25,7 @@ abbrev μ-loop : tie.MeasureT-loop
 loop-holds : tie.Need-loop-holds Inv-loop μ-loop
 loop-holds c = (
   omega arith,
-  frees-all _ _ _ _ (λ j l. getD-replicate 47 j (c .before .args .fans) 0 (omega arith)),
+  frees-all _ _ _ _ (λ j l. getD-replicate mostIntervals j (c .before .args .fans) 0 (omega arith)),
   λ k l. absurd (omega arith),
 )
 

@@ -2,6 +2,7 @@
 use mathlib.Core.Path.{_≡_, refl}
 use Prim.Native.Nat.{ℕ, _-_, _<_, _≤_}
 use lib.ListN.{getD, length}
+use Rattle.model.specs.Limits.{mostIntervals}
 use Rattle.steps.proofs.Loops.{stored}
 use borrow.Author.Needs.{needs}
 use native.Mathlib.Omega.{arith}
@@ -9,10 +10,10 @@ use Rattle.rates.proofs.free_after.Statement.{statement}
 use Rattle.rates.proofs.free_after.Tie as tie
 
 abbrev Inv-loop : tie.InvT-loop
-Inv-loop free row left₀ j₀ left j = (length left ≡ 47) × (j ≤ 47) × ((k : ℕ) → k < j → getD left k 0 ≡ getD free k 0 - getD row k 0)
+Inv-loop free row left₀ j₀ left j = (length left ≡ mostIntervals) × (j ≤ mostIntervals) × ((k : ℕ) → k < j → getD left k 0 ≡ getD free k 0 - getD row k 0)
 
 abbrev μ-loop : tie.MeasureT-loop
-μ-loop free row left₀ j₀ left j = 47 - j
+μ-loop free row left₀ j₀ left j = mostIntervals - j
 
 loop-holds : tie.Need-loop-holds Inv-loop μ-loop
 loop-holds c = (refl, omega arith, λ k l. absurd (omega arith))

@@ -5,16 +5,17 @@ use mathlib.Core.Bool.{false, _&&_}
 use lib.ListN.{length, getD, length-set}
 use native.Mathlib.Omega.{arith}
 use borrow.Author.Needs.{needs}
+use Rattle.model.specs.Limits.{mostDoses}
 use Rattle.steps.proofs.Loops.{stored}
 use Rattle.rounds.proofs.Laws.{marks-both}
 use Rattle.rounds.proofs.dead_part.Statement.{statement}
 use Rattle.rounds.proofs.dead_part.Tie as tie
 
 abbrev Inv-loop : tie.InvT-loop
-Inv-loop dead set part₀ k₀ part k = (k ≤ 24) × (length part ≡ 24) × ((m : ℕ) → m < k → getD part m false ≡ (getD dead m false && getD set m false))
+Inv-loop dead set part₀ k₀ part k = (k ≤ mostDoses) × (length part ≡ mostDoses) × ((m : ℕ) → m < k → getD part m false ≡ (getD dead m false && getD set m false))
 
 abbrev μ-loop : tie.MeasureT-loop
-μ-loop dead set part₀ k₀ part k = 24 - k
+μ-loop dead set part₀ k₀ part k = mostDoses - k
 
 loop-holds : tie.Need-loop-holds Inv-loop μ-loop
 loop-holds c = (omega arith, search needs, λ k h. absurd (omega arith))
@@ -46,7 +47,7 @@ loop-again c =
 returns : tie.Need-returns Inv-loop μ-loop
 returns c =
     let L = c .before .loop in
-    marks-both 24 (c .before .before .args .t1) (c .before .before .args .t2) (L .part) (search needs) (L .inv .1) (λ k h. L .inv .2 k (omega arith))
+    marks-both mostDoses (c .before .before .args .t1) (c .before .before .args .t2) (L .part) (search needs) (L .inv .1) (λ k h. L .inv .2 k (omega arith))
 
 pub dead-part-spec : {M : Type 1} → statement M
 dead-part-spec =

@@ -4,16 +4,17 @@ use mathlib.Core.Path.{_≡_, refl}
 use lib.ListN.{length, getD, length-set}
 use native.Mathlib.Omega.{arith}
 use borrow.Author.Needs.{needs}
+use Rattle.model.specs.Limits.{mostClassGrams, mostIntervals, week}
 use Rattle.steps.proofs.Loops.{stored}
 use native.Mathlib.Nat.{mul-le-mul}
 use Rattle.rounds.proofs.holds_of.Statement.{statement}
 use Rattle.rounds.proofs.holds_of.Tie as tie
 
 abbrev Inv-loop : tie.InvT-loop
-Inv-loop lens w reserved holds₀ j₀ holds j = (j ≤ 47) × (length holds ≡ 47) × ((m : ℕ) → m < j → getD holds m 0 ≡ getD reserved m 0 * (getD lens m 0 * w))
+Inv-loop lens w reserved holds₀ j₀ holds j = (j ≤ mostIntervals) × (length holds ≡ mostIntervals) × ((m : ℕ) → m < j → getD holds m 0 ≡ getD reserved m 0 * (getD lens m 0 * w))
 
 abbrev μ-loop : tie.MeasureT-loop
-μ-loop lens w reserved holds₀ j₀ holds j = 47 - j
+μ-loop lens w reserved holds₀ j₀ holds j = mostIntervals - j
 
 loop-holds : tie.Need-loop-holds Inv-loop μ-loop
 loop-holds c = (omega arith, search needs, λ k h. absurd (omega arith))
@@ -34,14 +35,14 @@ mul-holds-3 : tie.Need-mul-holds-3 Inv-loop μ-loop
 mul-holds-3 c =
     let A = c .before .before .before .args in
     let L = c .before .before .loop in
-    let t : getD (A .lens .now) (L .j) 0 * A .w ≤ 604800 * 24000000 = mul-le-mul (c .before .before .before .pre .0 (L .j)) (c .before .before .before .pre .2) in
+    let t : getD (A .lens .now) (L .j) 0 * A .w ≤ week * mostClassGrams = mul-le-mul (c .before .before .before .pre .0 (L .j)) (c .before .before .before .pre .2) in
     omega arith
 
 mul-holds-4 : tie.Need-mul-holds-4 Inv-loop μ-loop
 mul-holds-4 c =
     let A = c .before .before .before .args in
     let L = c .before .before .loop in
-    let t : getD (A .lens .now) (L .j) 0 * A .w ≤ 604800 * 24000000 = mul-le-mul (c .before .before .before .pre .0 (L .j)) (c .before .before .before .pre .2) in
+    let t : getD (A .lens .now) (L .j) 0 * A .w ≤ week * mostClassGrams = mul-le-mul (c .before .before .before .pre .0 (L .j)) (c .before .before .before .pre .2) in
     omega (arith, mul-le-mul (c .before .before .before .pre .1 (L .j)) t)
 
 mul-holds-5 : tie.Need-mul-holds-5 Inv-loop μ-loop

@@ -4,15 +4,16 @@ use mathlib.Core.Path.{_≡_}
 use lib.ListN.{length}
 use native.Mathlib.Omega.{arith}
 use borrow.Author.Needs.{needs}
+use Rattle.model.specs.Limits.{cells, mostDoses, mostIntervals}
 use Rattle.rounds.specs.Rounds.{RoomsTo}
 use Rattle.rounds.proofs.lay_rooms.Statement.{statement}
 use Rattle.rounds.proofs.lay_rooms.Tie as tie
 
 abbrev Inv-loop : tie.InvT-loop
-Inv-loop rooms₀ active lens set w k₀ rooms k = (k ≤ 24) × (length rooms ≡ 1128) × RoomsTo active lens set w (k * 47) rooms
+Inv-loop rooms₀ active lens set w k₀ rooms k = (k ≤ mostDoses) × (length rooms ≡ cells) × RoomsTo active lens set w (k * mostIntervals) rooms
 
 abbrev μ-loop : tie.MeasureT-loop
-μ-loop rooms₀ active lens set w k₀ rooms k = 24 - k
+μ-loop rooms₀ active lens set w k₀ rooms k = mostDoses - k
 
 loop-holds : tie.Need-loop-holds Inv-loop μ-loop
 loop-holds c = (omega arith, c .pre .0, λ i h. absurd (omega arith))

@@ -6,6 +6,7 @@ use lib.ListN.{length, getD, length-set}
 use native.Mathlib.Nat.{mul-le-mul}
 use native.Mathlib.Omega.{arith}
 use borrow.Author.Needs.{needs}
+use Rattle.model.specs.Limits.{cells, mostClassGrams, mostIntervals, week}
 use Rattle.model.specs.Sets.{on}
 use Rattle.rounds.specs.Rounds.{RoomsTo}
 use Rattle.steps.proofs.Loops.{stored}
@@ -14,10 +15,10 @@ use Rattle.rounds.proofs.lay_row.Statement.{statement}
 use Rattle.rounds.proofs.lay_row.Tie as tie
 
 abbrev Inv-loop : tie.InvT-loop
-Inv-loop rooms₀ active lens k w set j₀ rooms j = (j ≤ 47) × (length rooms ≡ 1128) × RoomsTo active lens set w (k * 47 + j) rooms
+Inv-loop rooms₀ active lens k w set j₀ rooms j = (j ≤ mostIntervals) × (length rooms ≡ cells) × RoomsTo active lens set w (k * mostIntervals + j) rooms
 
 abbrev μ-loop : tie.MeasureT-loop
-μ-loop rooms₀ active lens k w set j₀ rooms j = 47 - j
+μ-loop rooms₀ active lens k w set j₀ rooms j = mostIntervals - j
 
 loop-holds : tie.Need-loop-holds Inv-loop μ-loop
 loop-holds c = (omega arith, c .pre .0, λ i h. c .pre .4 i (omega arith))
@@ -42,7 +43,7 @@ element-copy-out-on-2 c = search needs
 
 mul-on-2 : tie.Need-mul-on-2 Inv-loop μ-loop
 mul-on-2 c =
-    let t : getD (c .before .before .before .before .args .lens .now) (c .before .before .before .loop .j) 0 * c .before .before .before .before .args .w ≤ 604800 * 24000000 = mul-le-mul (c .before .before .before .before .pre .1 (c .before .before .before .loop .j)) (c .before .before .before .before .pre .2) in
+    let t : getD (c .before .before .before .before .args .lens .now) (c .before .before .before .loop .j) 0 * c .before .before .before .before .args .w ≤ week * mostClassGrams = mul-le-mul (c .before .before .before .before .pre .1 (c .before .before .before .loop .j)) (c .before .before .before .before .pre .2) in
     omega (arith, c .before .before .before .before .pre .1 (c .before .before .before .loop .j))
 
 on-requires : tie.Need-on-requires Inv-loop μ-loop
@@ -67,7 +68,7 @@ loop-again : tie.Need-loop-again Inv-loop μ-loop
 loop-again c =
     let A = c .before .before .before .before .before .before .args in
     let L = c .before .before .before .before .before .loop in
-    (omega arith, simp length-set (L .inv .1), λ i h. stored 0 (λ i. on (getD (A .t4) (i / 47) false) (on (getD (A .active .now) i false) (getD (A .lens .now) (i % 47) 0 * A .w))) (L .rooms) (A .k * 47 + L .j) _ (omega arith) (L .inv .2) (c .on2 .ensures .0 ∙ ap (on (getD (A .t4) (A .k) false)) (c .before .on .ensures .0) ∙ room-place (A .active .now) (A .t4) (A .lens .now) (A .w) (A .k) (L .j) (c .before .before .before .before .loop-test .taken)) i (omega arith))
+    (omega arith, simp length-set (L .inv .1), λ i h. stored 0 (λ i. on (getD (A .t4) (i / mostIntervals) false) (on (getD (A .active .now) i false) (getD (A .lens .now) (i % mostIntervals) 0 * A .w))) (L .rooms) (A .k * mostIntervals + L .j) _ (omega arith) (L .inv .2) (c .on2 .ensures .0 ∙ ap (on (getD (A .t4) (A .k) false)) (c .before .on .ensures .0) ∙ room-place (A .active .now) (A .t4) (A .lens .now) (A .w) (A .k) (L .j) (c .before .before .before .before .loop-test .taken)) i (omega arith))
 
 returns : tie.Need-returns Inv-loop μ-loop
 returns c = (c .before .loop .inv .1, λ i h. c .before .loop .inv .2 i (omega arith))

@@ -5,6 +5,7 @@ use mathlib.Core.Bool.{false}
 use lib.ListN.{length, getD, length-set}
 use native.Mathlib.Omega.{arith}
 use borrow.Author.Needs.{needs}
+use Rattle.model.specs.Limits.{mostDoses}
 use Rattle.model.specs.Sets.{on}
 use Rattle.steps.proofs.Loops.{stored}
 use native.Mathlib.Nat.{mul-le-mul}
@@ -12,10 +13,10 @@ use Rattle.rounds.proofs.needs_of.Statement.{statement}
 use Rattle.rounds.proofs.needs_of.Tie as tie
 
 abbrev Inv-loop : tie.InvT-loop
-Inv-loop grams p set ns₀ k₀ ns k = (k ≤ 24) × (length ns ≡ 24) × ((m : ℕ) → m < k → getD ns m 0 ≡ on (getD set m false) (getD grams m 0 * p))
+Inv-loop grams p set ns₀ k₀ ns k = (k ≤ mostDoses) × (length ns ≡ mostDoses) × ((m : ℕ) → m < k → getD ns m 0 ≡ on (getD set m false) (getD grams m 0 * p))
 
 abbrev μ-loop : tie.MeasureT-loop
-μ-loop grams p set ns₀ k₀ ns k = 24 - k
+μ-loop grams p set ns₀ k₀ ns k = mostDoses - k
 
 loop-holds : tie.Need-loop-holds Inv-loop μ-loop
 loop-holds c = (omega arith, search needs, λ k h. absurd (omega arith))

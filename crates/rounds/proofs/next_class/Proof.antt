@@ -4,6 +4,7 @@ use mathlib.Core.Path.{_≡_}
 use lib.Dec.{T}
 use lib.ListN.{length, getD}
 use borrow.Author.Needs.{needs}
+use Rattle.model.specs.Limits.{cells}
 use Rattle.model.specs.Sets.{weight}
 use Rattle.sheet.specs.Sheet.{setOf, rowOf, settingFrom}
 use Rattle.rounds.specs.Rounds.{Candidate}
@@ -13,7 +14,7 @@ use Rattle.rounds.proofs.next_class.Statement.{statement}
 use Rattle.rounds.proofs.next_class.Tie as tie
 
 abbrev Inv-loop : tie.InvT-loop
-Inv-loop x₀ release deadline instants active lens grams doses intervals free sequence set₀ x set = (length x ≡ 1128) × Candidate (settingFrom doses intervals active lens grams) (rowOf free) (setOf set₀) (setOf set) × ((k : ℕ) → T (setOf set k) → T (setOf set₀ k))
+Inv-loop x₀ release deadline instants active lens grams doses intervals free sequence set₀ x set = (length x ≡ cells) × Candidate (settingFrom doses intervals active lens grams) (rowOf free) (setOf set₀) (setOf set) × ((k : ℕ) → T (setOf set k) → T (setOf set₀ k))
 
 abbrev μ-loop : tie.MeasureT-loop
 μ-loop x₀ release deadline instants active lens grams doses intervals free sequence set₀ x set = weight doses (λ k. getD grams k 0) (setOf set)

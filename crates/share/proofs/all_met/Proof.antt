@@ -5,16 +5,17 @@ use lib.ListN.{getD}
 use native.Mathlib.Omega.{arith}
 use borrow.Author.Needs.{needs}
 use borrow.Author.Count.{below-more}
+use Rattle.model.specs.Limits.{mostDoses}
 use Rattle.chains.specs.Chains.{got}
 use Rattle.steps.proofs.Tests.{not-both}
 use Rattle.share.proofs.all_met.Statement.{statement}
 use Rattle.share.proofs.all_met.Tie as tie
 
 abbrev Inv-loop : tie.InvT-loop
-Inv-loop x needs k₀ k = (k ≤ 24) × ((i : ℕ) → i < k → got x i ≡ getD needs i 0)
+Inv-loop x needs k₀ k = (k ≤ mostDoses) × ((i : ℕ) → i < k → got x i ≡ getD needs i 0)
 
 abbrev μ-loop : tie.MeasureT-loop
-μ-loop x needs k₀ k = 24 - k
+μ-loop x needs k₀ k = mostDoses - k
 
 loop-holds : tie.Need-loop-holds Inv-loop μ-loop
 loop-holds c = (omega arith, λ i h. absurd (let z : ⊥ = omega arith in z))

@@ -5,15 +5,16 @@ use lib.ListN.{length, getD, length-set}
 use native.Mathlib.Omega.{arith}
 use lib.Seq.{getD-set-same, getD-set-other}
 use borrow.Author.Needs.{needs}
+use Rattle.model.specs.Limits.{cells}
 use Rattle.steps.proofs.Tests.{alike}
 use Rattle.share.proofs.clear.Statement.{statement}
 use Rattle.share.proofs.clear.Tie as tie
 
 abbrev Inv-loop : tie.InvT-loop
-Inv-loop x₀ i₀ x i = (i ≤ 1128) × (length x ≡ 1128) × ((k : ℕ) → k < i → getD x k 0 ≡ 0)
+Inv-loop x₀ i₀ x i = (i ≤ cells) × (length x ≡ cells) × ((k : ℕ) → k < i → getD x k 0 ≡ 0)
 
 abbrev μ-loop : tie.MeasureT-loop
-μ-loop x₀ i₀ x i = 1128 - i
+μ-loop x₀ i₀ x i = cells - i
 
 loop-holds : tie.Need-loop-holds Inv-loop μ-loop
 loop-holds c = (omega arith, c .pre, λ k h. absurd (let z : ⊥ = omega arith in z))

@@ -4,16 +4,17 @@ use mathlib.Core.Path.{_≡_}
 use lib.ListN.{length}
 use native.Mathlib.Omega.{arith}
 use borrow.Author.Needs.{needs}
+use Rattle.model.specs.Limits.{cells, mostDoses}
 use Rattle.share.specs.Share.{Within}
 use Rattle.share.proofs.Laws.{within-none}
 use Rattle.share.proofs.find_shares.Statement.{statement}
 use Rattle.share.proofs.find_shares.Tie as tie
 
 abbrev Inv-loop : tie.InvT-loop
-Inv-loop x₀ rooms holds needs order i₀ x i = (i ≤ 24) × (length x ≡ 1128) × Within rooms holds needs x
+Inv-loop x₀ rooms holds needs order i₀ x i = (i ≤ mostDoses) × (length x ≡ cells) × Within rooms holds needs x
 
 abbrev μ-loop : tie.MeasureT-loop
-μ-loop x₀ rooms holds needs order i₀ x i = 24 - i
+μ-loop x₀ rooms holds needs order i₀ x i = mostDoses - i
 
 clear-requires : tie.Need-clear-requires Inv-loop μ-loop
 clear-requires c κs = c .before .before .before .before .before .pre .0 .shares

@@ -1,6 +1,7 @@
 -- `first_share` meets its contract: the smallest of what is missing, room and spare time fits all three.
 use Prim.Native.Nat.{_+_, _*_}
 use native.Mathlib.Omega.{arith}
+use Rattle.model.specs.Limits.{mostIntervals}
 use Rattle.share.proofs.Laws.{took-none, took-more}
 use borrow.Author.Needs.{needs}
 use Rattle.share.proofs.first_share.Statement.{statement}
@@ -63,7 +64,7 @@ slice-read-shares c = search needs
 add-shares : tie.Need-add-shares
 add-shares c =
     let C = c .before .before .before .before .before .before .before .before .before .before .before .before .before .before .before in
-    omega (arith, c .before .before .before .before .before .shared-slice-known5 .given (C .args .d * 47 + C .args .j), C .pre .1 .roomy (C .args .d) (C .args .j) (C .pre .2) (C .pre .3), c .before .before .before .less2 .ensures, c .before .before .smaller .ensures, c .before .smaller2 .ensures)
+    omega (arith, c .before .before .before .before .before .shared-slice-known5 .given (C .args .d * mostIntervals + C .args .j), C .pre .1 .roomy (C .args .d) (C .args .j) (C .pre .2) (C .pre .3), c .before .before .before .less2 .ensures, c .before .before .smaller .ensures, c .before .smaller2 .ensures)
 
 mul-shares-2 : tie.Need-mul-shares-2
 mul-shares-2 c = search needs

@@ -4,6 +4,7 @@ use mathlib.Core.Path.{_≡_}
 use lib.ListN.{length, getD}
 use native.Mathlib.Omega.{arith}
 use borrow.Author.Needs.{needs}
+use Rattle.model.specs.Limits.{cells, mostIntervals}
 use Rattle.chains.specs.Chains.{got}
 use Rattle.share.specs.Share.{Within}
 use Rattle.share.proofs.Laws.{within-took}
@@ -11,10 +12,10 @@ use Rattle.share.proofs.first_shares.Statement.{statement}
 use Rattle.share.proofs.first_shares.Tie as tie
 
 abbrev Inv-loop : tie.InvT-loop
-Inv-loop shares₀ rooms holds needs d need miss₀ j₀ shares miss j = (j ≤ 47) × (length shares ≡ 1128) × Within rooms holds needs shares × (got shares d + miss ≡ getD needs d 0)
+Inv-loop shares₀ rooms holds needs d need miss₀ j₀ shares miss j = (j ≤ mostIntervals) × (length shares ≡ cells) × Within rooms holds needs shares × (got shares d + miss ≡ getD needs d 0)
 
 abbrev μ-loop : tie.MeasureT-loop
-μ-loop shares₀ rooms holds needs d need miss₀ j₀ shares miss j = 47 - j
+μ-loop shares₀ rooms holds needs d need miss₀ j₀ shares miss j = mostIntervals - j
 
 returns : tie.Need-returns Inv-loop μ-loop
 returns c = c .before .before .before .before .before .pre .1

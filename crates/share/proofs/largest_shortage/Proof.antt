@@ -1,14 +1,15 @@
 -- `largest_shortage` meets its contract.
 use Prim.Native.Nat.{_≤_, _-_}
 use borrow.Author.Needs.{needs}
+use Rattle.model.specs.Limits.{mostDoses}
 use Rattle.share.proofs.largest_shortage.Statement.{statement}
 use Rattle.share.proofs.largest_shortage.Tie as tie
 
 abbrev Inv-loop : tie.InvT-loop
-Inv-loop shares needs most₀ k₀ most k = (k ≤ 24) × (1 ≤ most)
+Inv-loop shares needs most₀ k₀ most k = (k ≤ mostDoses) × (1 ≤ most)
 
 abbrev μ-loop : tie.MeasureT-loop
-μ-loop shares needs most₀ k₀ most k = 24 - k
+μ-loop shares needs most₀ k₀ most k = mostDoses - k
 
 loop-holds : tie.Need-loop-holds Inv-loop μ-loop
 loop-holds c = search needs

@@ -4,12 +4,13 @@ use mathlib.Core.Path.{_≡_}
 use lib.ListN.{length}
 use native.Mathlib.Omega.{arith}
 use borrow.Author.Needs.{needs}
+use Rattle.model.specs.Limits.{cells, mostDoses}
 use Rattle.share.specs.Share.{Raised}
 use Rattle.share.proofs.raise.Statement.{statement}
 use Rattle.share.proofs.raise.Tie as tie
 
 abbrev Inv-loop : tie.InvT-loop
-Inv-loop x₀ rooms holds needs top least₀ dead₀ x least dead = (length x ≡ 1128) × (1 ≤ least) × (least ≤ top) × Raised rooms holds needs least 24 dead x
+Inv-loop x₀ rooms holds needs top least₀ dead₀ x least dead = (length x ≡ cells) × (1 ≤ least) × (least ≤ top) × Raised rooms holds needs least mostDoses dead x
 
 abbrev μ-loop : tie.MeasureT-loop
 μ-loop x₀ rooms holds needs top least₀ dead₀ x least dead = least

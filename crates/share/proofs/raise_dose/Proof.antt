@@ -5,6 +5,7 @@ use mathlib.Core.Logic.{_≢_}
 use lib.ListN.{length}
 use native.Mathlib.Omega.{arith}
 use borrow.Author.Needs.{needs}
+use Rattle.model.specs.Limits.{cells, mostDoses}
 use Rattle.chains.specs.Chains.{got, Bounded, Kept}
 use Rattle.chains.proofs.Laws.{kept-refl, kept-trans, exhausted-none}
 use Rattle.share.proofs.Laws.{kept-drop, exhausted-same}
@@ -12,7 +13,7 @@ use Rattle.share.proofs.raise_dose.Statement.{statement}
 use Rattle.share.proofs.raise_dose.Tie as tie
 
 abbrev Inv-loop : tie.InvT-loop
-Inv-loop shares₀ rooms holds dead d need least shares = (length shares ≡ 1128) × Bounded rooms holds shares × (got shares d ≤ need) × ((k : ℕ) → k < 24 → k ≢ d → got shares k ≡ got shares₀ k) × Kept dead shares₀ dead shares
+Inv-loop shares₀ rooms holds dead d need least shares = (length shares ≡ cells) × Bounded rooms holds shares × (got shares d ≤ need) × ((k : ℕ) → k < mostDoses → k ≢ d → got shares k ≡ got shares₀ k) × Kept dead shares₀ dead shares
 
 abbrev μ-loop : tie.MeasureT-loop
 μ-loop shares₀ rooms holds dead d need least shares = need - got shares d

@@ -4,19 +4,20 @@ use mathlib.Core.Path.{_≡_}
 use lib.ListN.{length}
 use native.Mathlib.Omega.{arith}
 use borrow.Author.Needs.{needs}
+use Rattle.model.specs.Limits.{cells, mostDoses, mostMarks}
 use Rattle.share.specs.Share.{Raised}
 use Rattle.share.proofs.Laws.{raised-none, raised-step, all-false}
 use Rattle.share.proofs.raise_pass.Statement.{statement}
 use Rattle.share.proofs.raise_pass.Tie as tie
 
 abbrev Inv-loop : tie.InvT-loop
-Inv-loop x₀ rooms holds needs least dead₀ d₀ x dead d = (d ≤ 24) × (length x ≡ 1128) × Raised rooms holds needs least d dead x
+Inv-loop x₀ rooms holds needs least dead₀ d₀ x dead d = (d ≤ mostDoses) × (length x ≡ cells) × Raised rooms holds needs least d dead x
 
 abbrev μ-loop : tie.MeasureT-loop
-μ-loop x₀ rooms holds needs least dead₀ d₀ x dead d = 24 - d
+μ-loop x₀ rooms holds needs least dead₀ d₀ x dead d = mostDoses - d
 
 loop-holds : tie.Need-loop-holds Inv-loop μ-loop
-loop-holds c = (omega arith, c .before .before .before .before .pre .0 .shares, raised-none _ (all-false 72) (c .before .before .before .before .pre .1))
+loop-holds c = (omega arith, c .before .before .before .before .pre .0 .shares, raised-none _ (all-false mostMarks) (c .before .before .before .before .pre .1))
 
 mul-need : tie.Need-mul-need Inv-loop μ-loop
 mul-need c = search needs
@@ -42,7 +43,7 @@ same-length : tie.Need-same-length Inv-loop μ-loop
 same-length c = omega arith
 
 returns : tie.Need-returns Inv-loop μ-loop
-returns c = let e : c .before .loop .d ≡ 24 = omega arith in rw e at (c .before .loop .inv .2)
+returns c = let e : c .before .loop .d ≡ mostDoses = omega arith in rw e at (c .before .loop .inv .2)
 
 pub raise-pass-spec : {M : Type 1} → statement M
 raise-pass-spec =

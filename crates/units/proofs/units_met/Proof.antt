@@ -2,6 +2,7 @@
 use mathlib.Core.Path.{_≡_, _∙_, ap, refl, sym}
 use Prim.Native.Nat.{ℕ, _-_, _/_, _<_, _≤_}
 use lib.ListN.{getD, getD-replicate, length}
+use Rattle.model.specs.Limits.{mostDoses}
 use Rattle.records.specs.Held.{asSlot}
 use Rattle.clauses.specs.Tests.{Counts, unitsUpTo}
 use Rattle.clauses.proofs.Tell.{tells-by, tells-off}
@@ -12,7 +13,7 @@ use Rattle.units.proofs.units_met.Statement.{statement}
 use Rattle.units.proofs.units_met.Tie as tie
 
 abbrev Inv-loop : tie.InvT-loop
-Inv-loop plan p numbers grams doses m sums₀ i₀ sums i = (m ≡ length plan / 32) × (p ≤ i) × (i ≤ m) × (length sums ≡ 24) × Summed grams plan numbers doses p i sums
+Inv-loop plan p numbers grams doses m sums₀ i₀ sums i = (m ≡ length plan / 32) × (p ≤ i) × (i ≤ m) × (length sums ≡ mostDoses) × Summed grams plan numbers doses p i sums
 
 abbrev μ-loop : tie.MeasureT-loop
 μ-loop plan p numbers grams doses m sums₀ i₀ sums i = m - i
@@ -22,7 +23,7 @@ within : {i m n : ℕ} → m ≡ n → i < m → i < n
 within e l = omega arith
 
 loop-holds : tie.Need-loop-holds Inv-loop μ-loop
-loop-holds c = (refl, omega arith, omega arith, refl, summed-none _ _ _ _ _ _ (λ k l. getD-replicate 24 k 0 0 (omega arith)))
+loop-holds c = (refl, omega arith, omega arith, refl, summed-none _ _ _ _ _ _ (λ k l. getD-replicate mostDoses k 0 0 (omega arith)))
 
 slot-at-requires : tie.Need-slot-at-requires Inv-loop μ-loop
 slot-at-requires c κs = omega arith

@@ -5,6 +5,7 @@ use lib.ListN.{length}
 use native.Mathlib.Omega.{arith}
 use borrow.Author.Needs.{needs}
 use lib.Seq.{getD-set-same, getD-set-other}
+use Rattle.model.specs.Limits.{mostDoses}
 use Rattle.classes.proofs.Tally.after.Statement.{statement}
 use Rattle.classes.proofs.Tally.after.Tie as tie
 
@@ -49,8 +50,8 @@ returns c =
       classed = ap (λ (m : ℕ). A .self .classed + m) (c .before .size-of .ensures .0);
       remaining = c .before .before .before .before .before .before .left-of .ensures;
       numbers = c .before .before .before .before .numbered .ensures;
-      grams = getD-set-same (A .self .grams) (A .self .class) _ 0 (let e : length (A .self .grams) ≡ 24 = search needs in omega (arith, c .before .before .before .before .before .before .before .before .before .pre .0));
-      time = getD-set-same (A .self .time) (A .self .class) _ 0 (let e : length (A .self .time) ≡ 24 = search needs in omega (arith, c .before .before .before .before .before .before .before .before .before .pre .0));
+      grams = getD-set-same (A .self .grams) (A .self .class) _ 0 (let e : length (A .self .grams) ≡ mostDoses = search needs in omega (arith, c .before .before .before .before .before .before .before .before .before .pre .0));
+      time = getD-set-same (A .self .time) (A .self .class) _ 0 (let e : length (A .self .time) ≡ mostDoses = search needs in omega (arith, c .before .before .before .before .before .before .before .before .before .pre .0));
       other-grams = λ i d. getD-set-other (A .self .grams) (A .self .class) i _ 0 d;
       other-time = λ i d. getD-set-other (A .self .time) (A .self .class) i _ 0 d;
     }

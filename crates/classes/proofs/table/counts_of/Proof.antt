@@ -4,15 +4,16 @@ use mathlib.Core.Path.{_≡_, refl}
 use lib.ListN.{length, getD, length-set}
 use native.Mathlib.Omega.{arith}
 use borrow.Author.Needs.{needs}
+use Rattle.model.specs.Limits.{mostIntervals}
 use Rattle.steps.proofs.Loops.{stored}
 use Rattle.classes.proofs.table.counts_of.Statement.{statement}
 use Rattle.classes.proofs.table.counts_of.Tie as tie
 
 abbrev Inv-loop : tie.InvT-loop
-Inv-loop reserved counts₀ j₀ counts j = (j ≤ 47) × (length counts ≡ 47) × ((m : ℕ) → m < j → getD counts m 0 ≡ getD reserved m 0)
+Inv-loop reserved counts₀ j₀ counts j = (j ≤ mostIntervals) × (length counts ≡ mostIntervals) × ((m : ℕ) → m < j → getD counts m 0 ≡ getD reserved m 0)
 
 abbrev μ-loop : tie.MeasureT-loop
-μ-loop reserved counts₀ j₀ counts j = 47 - j
+μ-loop reserved counts₀ j₀ counts j = mostIntervals - j
 
 loop-holds : tie.Need-loop-holds Inv-loop μ-loop
 loop-holds c = (omega arith, search needs, λ k h. absurd (omega arith))

@@ -4,6 +4,7 @@ use mathlib.Core.Path.{_≡_, ap, _∙_}
 use lib.ListN.{length, getD, length-set}
 use native.Mathlib.Omega.{arith}
 use borrow.Author.Needs.{needs}
+use Rattle.model.specs.Limits.{mostIntervals}
 use Rattle.model.specs.Sets.{sum}
 use Rattle.steps.proofs.Loops.{stored}
 use Rattle.classes.specs.Phase.{rowAt}
@@ -11,10 +12,10 @@ use Rattle.classes.proofs.table.free_fans.Statement.{statement}
 use Rattle.classes.proofs.table.free_fans.Tie as tie
 
 abbrev Inv-loop : tie.InvT-loop
-Inv-loop table fans classes free₀ j₀ free j = (j ≤ 47) × (length free ≡ 47) × ((m : ℕ) → m < j → getD free m 0 ≡ fans - sum classes (λ i. rowAt table i m))
+Inv-loop table fans classes free₀ j₀ free j = (j ≤ mostIntervals) × (length free ≡ mostIntervals) × ((m : ℕ) → m < j → getD free m 0 ≡ fans - sum classes (λ i. rowAt table i m))
 
 abbrev μ-loop : tie.MeasureT-loop
-μ-loop table fans classes free₀ j₀ free j = 47 - j
+μ-loop table fans classes free₀ j₀ free j = mostIntervals - j
 
 loop-holds : tie.Need-loop-holds Inv-loop μ-loop
 loop-holds c = (omega arith, search needs, λ k h. absurd (omega arith))

@@ -3,16 +3,17 @@ use mathlib.Core.Path.{_≡_, refl}
 use Prim.Native.Nat.{ℕ, _-_, _%_, _≤_, _<_}
 use native.Mathlib.Omega.{arith}
 use lib.ListN.{getD, length}
+use Rattle.model.specs.Limits.{mostDoses}
 use Rattle.steps.proofs.Loops.{stored}
 use borrow.Author.Needs.{needs}
 use Rattle.plan.proofs.tables.narrow.Statement.{statement}
 use Rattle.plan.proofs.tables.narrow.Tie as tie
 
 abbrev Inv-loop : tie.InvT-loop
-Inv-loop wide numbers₀ i₀ numbers i = (i ≤ 24) × (length numbers ≡ 24) × ((k : ℕ) → k < i → getD numbers k 0 ≡ getD wide k 0 % 4294967296)
+Inv-loop wide numbers₀ i₀ numbers i = (i ≤ mostDoses) × (length numbers ≡ mostDoses) × ((k : ℕ) → k < i → getD numbers k 0 ≡ getD wide k 0 % 4294967296)
 
 abbrev μ-loop : tie.MeasureT-loop
-μ-loop wide numbers₀ i₀ numbers i = 24 - i
+μ-loop wide numbers₀ i₀ numbers i = mostDoses - i
 
 loop-holds : tie.Need-loop-holds Inv-loop μ-loop
 loop-holds c = (omega arith, refl, λ k l. absurd (omega arith))

@@ -1,0 +1,71 @@
+-- Limits (document 01): each number that bounds an order, what is worked out of it, or a plan, by its name.
+use Prim.Native.Nat.{ℕ}
+
+-- ---- orders
+
+-- "number of fans, 1 to 8"
+abbrev pub mostFans : ℕ
+mostFans = 8
+
+-- "top grams, top seconds, each 1 to 1,000,000"
+abbrev pub mostTop : ℕ
+mostTop = 1000000
+
+-- "bay, 1 to 999"
+abbrev pub mostBay : ℕ
+mostBay = 999
+
+-- "604,800": the seconds of a week, the last deadline and the last tick
+abbrev pub week : ℕ
+week = 604800
+
+-- "release, 0 to 604,799"
+abbrev pub lastRelease : ℕ
+lastRelease = 604799
+
+-- "grams, 1 to 1,000,000"
+abbrev pub mostGrams : ℕ
+mostGrams = 1000000
+
+-- "An order is exactly one F, anywhere among up to 24 D."
+abbrev pub mostDoses : ℕ
+mostDoses = 24
+
+-- "order length no multiple of 32, or over 1,600": in bytes, and in records
+abbrev pub orderRoom : ℕ
+orderRoom = 1600
+
+abbrev pub mostRecords : ℕ
+mostRecords = 50
+
+-- ---- what is worked out of an order
+
+-- "bound the intervals; at most 47": 24 releases and 24 deadlines
+abbrev pub mostIntervals : ℕ
+mostIntervals = 47
+
+-- the instants that bound them: one more
+abbrev pub mostInstants : ℕ
+mostInstants = 48
+
+-- a cell for each dose and interval: 24 × 47
+abbrev pub cells : ℕ
+cells = 1128
+
+-- the marks of a search: one for each dose and each interval, 71, and one more to make whole words
+abbrev pub mostMarks : ℕ
+mostMarks = 72
+
+-- the W of a set: 24 × 1,000,000
+abbrev pub mostClassGrams : ℕ
+mostClassGrams = 24000000
+
+-- the P of a class: 8 fans for a week
+abbrev pub mostFanTime : ℕ
+mostFanTime = 4838400
+
+-- ---- plans
+
+-- "plan buffer under 47,392 bytes (24 classes and 1,457 slots)"
+abbrev pub planRoom : ℕ
+planRoom = 47392

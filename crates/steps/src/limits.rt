@@ -1,0 +1,26 @@
+// Limits (document 01), by the names of the definitions (specs/Limits of model).
+pub const MOST_FANS: u32 = 8;
+
+pub const MOST_TOP: u32 = 1000000;
+
+pub const MOST_BAY: u32 = 999;
+
+pub const WEEK: u32 = 604800;
+
+pub const LAST_RELEASE: u32 = 604799;
+
+pub const MOST_GRAMS: u32 = 1000000;
+
+pub const MOST_DOSES: usize = 24;
+
+pub const ORDER_ROOM: usize = 1600;
+
+pub const MOST_INTERVALS: usize = 47;
+
+pub const MOST_INSTANTS: usize = 48;
+
+pub const CELLS: usize = 1128;
+
+pub const MOST_MARKS: usize = 72;
+
+pub const PLAN_ROOM: usize = 47392;
