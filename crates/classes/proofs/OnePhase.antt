@@ -18,12 +18,12 @@ use Rattle.model.proofs.Sums.{last}
 use Rattle.model.proofs.Sets.{Alike, _∩_, and-left, and-right, and-both, same-test, on-no, on-yes, size, size-all, le-weight, weight-pos, weight-part, weight-alike}
 use Rattle.model.proofs.Same.{agree-refl, fans-same, time-same, valid-same, next-same}
 use Rattle.model.proofs.Sequence.{Found, found-none, found-more, found-all, remaining-alike, free-alike}
-use Rattle.chains.specs.Chains.{cell}
-use Rattle.sheet.specs.Sheet.{setOf, activeOf, rowOf, settingFrom}
-use Rattle.sheet.proofs.Laws.{all-same}
+use Rattle.class_chains.specs.Chains.{cell}
+use Rattle.order_arrays.specs.Arrays.{setOf, activeOf, rowOf, settingFrom}
+use Rattle.order_arrays.proofs.Laws.{all-same}
 use Rattle.measure.specs.Measure.{Measured}
 use Rattle.measure.proofs.Free.{frees-sum}
-use Rattle.rounds.specs.Rounds.{Chosen}
+use Rattle.class_rounds.specs.Rounds.{Chosen}
 use Rattle.classes.specs.declared.Tally.{Tally}
 use Rattle.classes.specs.Phase.{choose, rowAt, classesIn, sharesIn, Start, Blank, Reserved, After, KeptShares, Past, SoFar}
 

@@ -13,8 +13,8 @@ use Rattle.model.specs.Classes as classes
 use Rattle.model.specs.Shares.{Valid}
 use Rattle.model.proofs.Sets.{size}
 use Rattle.model.proofs.Sequence.{Found}
-use Rattle.chains.specs.Chains.{cell}
-use Rattle.sheet.specs.Sheet.{setOf, setsOf}
+use Rattle.class_chains.specs.Chains.{cell}
+use Rattle.order_arrays.specs.Arrays.{setOf, setsOf}
 use Rattle.classes.specs.declared.Tally.{Tally}
 
 -- a where the test holds, and b where not

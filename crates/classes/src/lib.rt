@@ -4,15 +4,15 @@ mod sequence; // sequence.rt: which dose is filled first
 mod table; // table.rt: reservations
 mod top; // top.rt: refusal 9
 
+use class_rounds::Class;
+use class_rounds::next_class;
 use measure::first_set;
 use measure::size_of;
 use order::Order;
-use rounds::Class;
-use rounds::next_class;
+use order_arrays::active_in_order;
+use order_arrays::grams_in;
+use order_arrays::lens_in;
 use sequence::by_deadline;
-use sheet::active_in_order;
-use sheet::grams_in;
-use sheet::lens_in;
 use steps::excess;
 use steps::limits::CELLS;
 use steps::limits::MOST_DOSES;
@@ -30,7 +30,7 @@ ghost use lib.ListN.{length, getD};
 ghost use Rattle.model.specs.Limits.{cells, mostDoses};
 ghost use Rattle.model.proofs.Orders.{Fit};
 ghost use Rattle.order.specs.Held.{asOrder};
-ghost use Rattle.sheet.specs.Sheet.{settingFrom, Sheet};
+ghost use Rattle.order_arrays.specs.Arrays.{settingFrom, OrderArrays};
 ghost use Rattle.classes.specs.Answer.{ClassesOf, SharesOf, AgainstTop};
 ghost use Rattle.classes.specs.Phase.{choose, Start, Blank, After, KeptShares, SoFar};
 
@@ -164,7 +164,7 @@ fn phase(
     sequence: [usize; MOST_DOSES],
     tally: Tally,
 ) -> Tally
-    requires { ⌜ (length (now shares) ≡ cells) × Sheet doses intervals (now release) (now deadline) (now instants) (now active) (now lens) (now grams) × SoFar (settingFrom doses intervals (now active) (now lens) (now grams)) (λ j. fans) tally (now table) (now shares) × (tally .classed < doses) ⌝ }
+    requires { ⌜ (length (now shares) ≡ cells) × OrderArrays doses intervals (now release) (now deadline) (now instants) (now active) (now lens) (now grams) × SoFar (settingFrom doses intervals (now active) (now lens) (now grams)) (λ j. fans) tally (now table) (now shares) × (tally .classed < doses) ⌝ }
     ensures { λ r. ⌜ SoFar (settingFrom doses intervals (now (active .entry)) (now (lens .entry)) (now (grams .entry))) (λ j. fans) r (now (table .exit)) (now (shares .exit)) × (tally .classed < r .classed) ⌝ }
 {
     let mut x = [0u64; CELLS];
@@ -207,7 +207,7 @@ fn phases(
     fans: u64,
     sequence: [usize; MOST_DOSES],
 ) -> Tally
-    requires { ⌜ (length (now shares) ≡ cells) × (length (now table) ≡ mostDoses) × Sheet doses intervals (now release) (now deadline) (now instants) (now active) (now lens) (now grams) × Blank (now table) (now shares) ⌝ }
+    requires { ⌜ (length (now shares) ≡ cells) × (length (now table) ≡ mostDoses) × OrderArrays doses intervals (now release) (now deadline) (now instants) (now active) (now lens) (now grams) × Blank (now table) (now shares) ⌝ }
     ensures { λ r. ⌜ SoFar (settingFrom doses intervals (now (active .entry)) (now (lens .entry)) (now (grams .entry))) (λ j. fans) r (now (table .exit)) (now (shares .exit)) × (r .classed ≡ doses) ⌝ }
 {
     let mut tally = Tally::start(doses);

@@ -29,11 +29,11 @@ use Rattle.model.proofs.Lists.{All-of, Pairs-of, length-singles, total-at}
 use Rattle.model.proofs.PlanPieces.{noSlot}
 use Rattle.model.proofs.Judging.{certified-classes, certified-stands}
 use Rattle.records.specs.Plan.{classIn, slotIn}
-use Rattle.clauses.specs.Tests.{InTurn, Passes, Sheet, SheetOf, SlotFits, by-fan, by-interval, by-time, placeIn, unitsUpTo}
-use Rattle.sheet.specs.Sheet.{setsOf}
+use Rattle.judge_clauses.specs.Tests.{InTurn, Passes, OrderHeld, HeldFrom, SlotFits, by-fan, by-interval, by-time, placeIn, unitsUpTo}
+use Rattle.order_arrays.specs.Arrays.{setsOf}
 use Rattle.judge.proofs.Rows.{class-row, gather-at, noClass, noRecord, plan-class, plan-length, plan-slot, rows-read, slot-row}
-use Rattle.slots.proofs.Places.{ends-apart, turns-all}
-use Rattle.judge.proofs.Sheets.{instants-up, same-grams, same-size, same-time}
+use Rattle.judge_slots.proofs.Places.{ends-apart, turns-all}
+use Rattle.judge.proofs.Held.{instants-up, same-grams, same-size, same-time}
 
 -- the slots from record i on, n of them
 unfoldable pub slotsFrom : List ℕ → ℕ → ℕ → List Slot
@@ -76,7 +76,7 @@ same-class : {n d g t n′ d′ g′ t′ : ℕ} → n ≡ n′ → d ≡ d′ �
     → _≡_ {A = Class} (record { number = n; doses = d; grams = g; time = t }) (record { number = n′; doses = d′; grams = g′; time = t′ })
 same-class a b c e = rw (a, b, c, e)
 
-module _ (o : Order) (fit : Fit o) (h : Sheet) (sh : SheetOf o h) (b : List ℕ) (p : ℕ) (N : List ℕ) (short : p ≤ length b / 32) (q : Passes h b p N) where
+module _ (o : Order) (fit : Fit o) (h : OrderHeld) (sh : HeldFrom o h) (b : List ℕ) (p : ℕ) (N : List ℕ) (short : p ≤ length b / 32) (q : Passes h b p N) where
   abbrev m : ℕ
   m = length b / 32
 

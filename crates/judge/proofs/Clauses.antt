@@ -3,11 +3,11 @@ use mathlib.Core.List.{List}
 use Prim.Native.Nat.{ℕ, _+_, _/_, _<_, _≤_}
 use lib.ListN.{length}
 use Rattle.records.specs.Plan.{slotIn}
-use Rattle.clauses.specs.Tests.{Counts, InTurn, Ready, Sheet, SlotFits}
-use Rattle.slots.proofs.Places.{turns-all}
-use Rattle.pairs.proofs.Turns.{turn-place}
+use Rattle.judge_clauses.specs.Tests.{Counts, InTurn, Ready, OrderHeld, SlotFits}
+use Rattle.judge_slots.proofs.Places.{turns-all}
+use Rattle.judge_pairs.proofs.Turns.{turn-place}
 
-module _ (h : Sheet) (plan : List ℕ) (p : ℕ) (numbers : List ℕ)
+module _ (h : OrderHeld) (plan : List ℕ) (p : ℕ) (numbers : List ℕ)
     (slots : (i : ℕ) → i < length plan / 32 → p ≤ i → SlotFits h plan numbers (slotIn plan i)) where
   -- slots that fit have units to count
   pub counts-of : (i : ℕ) → i < length plan / 32 → p ≤ i → Counts (h .doses) plan numbers (slotIn plan i)

@@ -28,17 +28,17 @@ use Rattle.model.proofs.ValidShares.{class-open}
 use Rattle.model.proofs.DrawnLine.{class-of}
 use Rattle.model.proofs.PlanPieces.{noSlot}
 use Rattle.records.specs.Plan.{classIn, slotIn}
-use Rattle.clauses.specs.Tests.{ClassFits, ClassRow, InTurn, Leads, Numbers, Passes, Sheet, SheetOf, SlotFits, SlotLong, SlotRow, by-fan, by-interval, by-time, placeIn, unitsUpTo}
-use Rattle.sheet.specs.Sheet.{setsOf}
+use Rattle.judge_clauses.specs.Tests.{ClassFits, ClassRow, InTurn, Leads, Numbers, Passes, OrderHeld, HeldFrom, SlotFits, SlotLong, SlotRow, by-fan, by-interval, by-time, placeIn, unitsUpTo}
+use Rattle.order_arrays.specs.Arrays.{setsOf}
 use Rattle.judge.proofs.Rows.{gather-at, noClass, plan-class, plan-length, plan-slot, read-rows, row-class, row-slot}
-use Rattle.slots.proofs.Places.{place-at, tick-before, tick-from}
-use Rattle.judge.proofs.Sheets.{instants-up, same-grams, same-size, same-time}
+use Rattle.judge_slots.proofs.Places.{place-at, tick-before, tick-from}
+use Rattle.judge.proofs.Held.{instants-up, same-grams, same-size, same-time}
 use Rattle.judge.proofs.Certified.{in-set}
 use Rattle.judge.proofs.Naming.{numbers-named}
 
 -- ---- the interval of a slot
 
-module _ (o : Order) (h : Sheet) (sh : SheetOf o h) (s : Slot) (long : SlotLong s) where
+module _ (o : Order) (h : OrderHeld) (sh : HeldFrom o h) (s : Slot) (long : SlotLong s) where
   real-interval : (j : ℕ) → InInterval o j s → j < intervalCount o
   real-interval j b = elim (compare≤ (intervalCount o) j) [
     | inl l ↦
@@ -57,7 +57,7 @@ module _ (o : Order) (h : Sheet) (sh : SheetOf o h) (s : Slot) (long : SlotLong 
       (λ i r. omega (arith, instants-up o h sh (i + 1) j (omega arith) (omega (arith, sh .intervals)), sh .instants j (omega (arith, sh .intervals))))
       (omega (arith, sh .instants (j + 1) (omega (arith, sh .intervals))))
 
-module _ (o : Order) (fit : Fit o) (h : Sheet) (sh : SheetOf o h) (b : List ℕ) (p : ℕ) (N : List ℕ) (lead : Leads b p) (num : Numbers b p (length b / 32) N) (st : Stands o b) where
+module _ (o : Order) (fit : Fit o) (h : OrderHeld) (sh : HeldFrom o h) (b : List ℕ) (p : ℕ) (N : List ℕ) (lead : Leads b p) (num : Numbers b p (length b / 32) N) (st : Stands o b) where
   abbrev m : ℕ
   m = length b / 32
 

@@ -1,5 +1,5 @@
 pub mod Rows
-pub mod Sheets
+pub mod Held
 pub mod Certified
 pub mod Complete
 pub mod Naming

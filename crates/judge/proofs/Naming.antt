@@ -15,7 +15,7 @@ use Rattle.steps.proofs.Arrays.{filled-one}
 use Rattle.records.specs.declared.plan_records.Slot.{Slot}
 use Rattle.records.specs.Held.{asSlot}
 use Rattle.records.specs.Plan.{slotIn}
-use Rattle.clauses.specs.Tests.{Numbers, numberOf}
+use Rattle.judge_clauses.specs.Tests.{Numbers, numberOf}
 
 -- ---- the number of one dose
 

@@ -27,20 +27,20 @@ use Rattle.interval.specs.declared.Instants.{Instants}
 use Rattle.interval.specs.Held.{InstantsOf}
 use Rattle.interval.proofs.Laws.{count-is, instant-is}
 use Rattle.records.specs.Plan.{classIn}
-use Rattle.clauses.specs.Tests.{Finds, Passes, Sheet, SheetOf, sheet}
-use Rattle.sheet.specs.Sheet.{setsOf}
+use Rattle.judge_clauses.specs.Tests.{Finds, Passes, OrderHeld, HeldFrom, orderHeld}
+use Rattle.order_arrays.specs.Arrays.{setsOf}
 use Rattle.judge.specs.Verdict.{Against, Certifies, Leader, fast, fastBy, slow}
 use Rattle.judge.specs.declared.Judged.{Judged}
 use Rattle.judge.specs.declared.Judged.the-variants as is
-use Rattle.clauses.proofs.Tell.{tells-by}
-use Rattle.judge.proofs.Sheets.{same-grams, same-time}
+use Rattle.judge_clauses.proofs.Tell.{tells-by}
+use Rattle.judge.proofs.Held.{same-grams, same-time}
 use Rattle.judge.proofs.Certified.{passes-classes, passes-stands}
 use Rattle.judge.proofs.Complete.{stands-passes}
 
 module _ (o : Order) where
   -- its arrays hold it
   pub holds : (s : Instants) → InstantsOf o s → (J : ℕ) → J ≡ s .count - 1
-      → SheetOf (asOrder o) (sheet (o .count) J (o .fans) (o .release) (o .deadline) (o .grams) (s .at))
+      → HeldFrom (asOrder o) (orderHeld (o .count) J (o .fans) (o .release) (o .deadline) (o .grams) (s .at))
   holds s of J e = record {
     doses = doses-is o;
     intervals = e ∙ ap (λ (n : ℕ). n - 1) (count-is o s of);
@@ -53,7 +53,7 @@ module _ (o : Order) where
 
 -- ---- the tests tell whether plan bytes stand, and the first class
 
-module _ (o : model.Order) (fit : Fit o) (h : Sheet) (sh : SheetOf o h) (plan : List ℕ) (p : ℕ) (numbers : List ℕ) where
+module _ (o : model.Order) (fit : Fit o) (h : OrderHeld) (sh : HeldFrom o h) (plan : List ℕ) (p : ℕ) (numbers : List ℕ) where
   leads : p ≤ length plan / 32 → Passes h plan p numbers → Leader o plan p numbers
   unfolding remaining free
   leads short q =

@@ -16,7 +16,7 @@ use Rattle.model.specs.Plans.{Class, PlanRecord, Slot, classOf, classRecord, pl
 use Rattle.model.proofs.Lists.{length-singles}
 use Rattle.model.proofs.Orders.{no-refusal, passed, went-on}
 use Rattle.model.proofs.Sums.{last}
-use Rattle.clauses.specs.Tests.{ClassRow, SlotRow}
+use Rattle.judge_clauses.specs.Tests.{ClassRow, SlotRow}
 
 -- what stands for a record past the last
 abbrev pub noRecord : PlanRecord

@@ -12,8 +12,8 @@ use Rattle.model.specs.Intervals.{settingOf, fansPresent}
 use Rattle.model.specs.Stands.{Stands}
 use Rattle.model.specs.Answers.{Answer, FirstClass, Judges, aboveTop, done, refusal}
 use Rattle.records.specs.Plan.{classIn}
-use Rattle.clauses.specs.Tests.{Tells}
-use Rattle.sheet.specs.Sheet.{setsOf}
+use Rattle.judge_clauses.specs.Tests.{Tells}
+use Rattle.order_arrays.specs.Arrays.{setsOf}
 use Rattle.judge.specs.declared.Judged.{Judged}
 use Rattle.judge.specs.declared.Judged.the-variants as is
 

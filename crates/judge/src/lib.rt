@@ -2,7 +2,7 @@
 mod numbers; // numbers.rt: the class of each dose, as the slots name it
 mod top; // top.rt: refusal 9
 
-use clauses::rows;
+use judge_clauses::rows;
 use order::Order;
 use records::RECORD_SIZE;
 use steps::limits::MOST_DOSES;
@@ -14,7 +14,7 @@ ghost use Rattle.model.specs.Records.{recordSize};
 ghost use Rattle.model.proofs.Orders.{Fit};
 ghost use Rattle.order.specs.Held.{asOrder};
 ghost use Rattle.judge.specs.Verdict.{Certifies, Verdict};
-ghost use Rattle.clauses.specs.Tests.{Tells, RowsPass, Passes, Finds, sheet};
+ghost use Rattle.judge_clauses.specs.Tests.{Tells, RowsPass, Passes, Finds, orderHeld};
 
 // Whether plan bytes stand, how many C records are in front, and the class number of each dose.
 struct Found {
@@ -51,7 +51,7 @@ fn rows_pass(plan: &[u8], p: usize, numbers: &[u32; MOST_DOSES], doses: usize) -
     if !numbers::numbered(numbers, doses, p) {
         return false;
     }
-    rates::rates_fall(plan, p)
+    judge_rates::rates_fall(plan, p)
 }
 
 // Every clause of "A plan stands", of the sets that the slots name.
@@ -68,12 +68,12 @@ fn all_pass(
     fans: u32,
 ) -> bool
     requires { ⌜ (p ≤ length (now plan) / recordSize) × (doses ≤ mostDoses) × (intervals ≤ mostIntervals) ⌝ }
-    ensures { λ t. ⌜ Tells t (Passes (sheet doses intervals fans (now (release .entry)) (now (deadline .entry)) (now (grams .entry)) (now (instants .entry))) (now (plan .entry)) p (now (numbers .entry))) ⌝ }
+    ensures { λ t. ⌜ Tells t (Passes (orderHeld doses intervals fans (now (release .entry)) (now (deadline .entry)) (now (grams .entry)) (now (instants .entry))) (now (plan .entry)) p (now (numbers .entry))) ⌝ }
 {
     if !rows_pass(plan, p, numbers, doses) {
         return false;
     }
-    if !rates::classes_fit(
+    if !judge_rates::classes_fit(
         plan,
         p,
         numbers,
@@ -87,7 +87,7 @@ fn all_pass(
     ) {
         return false;
     }
-    if !slots::slots_fit(
+    if !judge_slots::slots_fit(
         plan,
         p,
         numbers,
@@ -101,13 +101,13 @@ fn all_pass(
     ) {
         return false;
     }
-    if !pairs::all_in_turn(plan, p, instants, intervals) {
+    if !judge_pairs::all_in_turn(plan, p, instants, intervals) {
         return false;
     }
-    if !pairs::all_clear(plan, p, instants, intervals) {
+    if !judge_pairs::all_clear(plan, p, instants, intervals) {
         return false;
     }
-    units::units_met(plan, p, numbers, grams, doses)
+    judge_units::units_met(plan, p, numbers, grams, doses)
 }
 
 // The plan as its own certificate, for an order that is held in arrays.
@@ -122,7 +122,7 @@ fn find(
     fans: u32,
 ) -> Found
     requires { ⌜ (doses ≤ mostDoses) × (intervals ≤ mostIntervals) ⌝ }
-    ensures { λ r. ⌜ Finds (sheet doses intervals fans (now (release .entry)) (now (deadline .entry)) (now (grams .entry)) (now (instants .entry))) (now (plan .entry)) (r .classes) (r .numbers) (r .stands) ⌝ }
+    ensures { λ r. ⌜ Finds (orderHeld doses intervals fans (now (release .entry)) (now (deadline .entry)) (now (grams .entry)) (now (instants .entry))) (now (plan .entry)) (r .classes) (r .numbers) (r .stands) ⌝ }
 {
     let p = rows::lead(plan);
     let numbers = numbers::numbers_of(plan, p);

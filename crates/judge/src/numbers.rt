@@ -9,7 +9,7 @@ ghost use Prim.Native.Nat.{ℕ, _/_, _<_, _≤_};
 ghost use lib.ListN.{length, getD};
 ghost use Rattle.model.specs.Limits.{mostDoses};
 ghost use Rattle.model.specs.Records.{recordSize};
-ghost use Rattle.clauses.specs.Tests.{Tells, Numbers};
+ghost use Rattle.judge_clauses.specs.Tests.{Tells, Numbers};
 
 // The number of one dose is noted, where there can be such a dose.
 fn noted(before: [u32; MOST_DOSES], dose: u32, class: u32) -> [u32; MOST_DOSES]

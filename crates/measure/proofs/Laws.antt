@@ -12,7 +12,7 @@ use Rattle.model.specs.Classes.{Setting, Row, P, openFans}
 use Rattle.model.proofs.Same.{Agree, fans-same, grams-same, time-same}
 use Rattle.model.proofs.Sets.{Alike, on-below, weight-alike}
 use Rattle.model.proofs.Sums.{sum-congr}
-use Rattle.sheet.specs.Sheet.{setOf, lenOf, settingBy, Below, Sheet}
+use Rattle.order_arrays.specs.Arrays.{setOf, lenOf, settingBy, Below, OrderArrays}
 use Rattle.measure.specs.Measure.{Opens, Measured}
 
 -- ---- W and P fit
@@ -22,18 +22,18 @@ unfolding sum
 sum-most zero b f h = omega arith
 sum-most (suc n) b f h = omega (arith, sum-most n b f (λ k l. h k (omega arith)), h n (omega arith))
 
-module _ {n J : ℕ} {release deadline instants : List ℕ} {active : List Bool} {lens grams : List ℕ} (sheet : Sheet n J release deadline instants active lens grams) where
+module _ {n J : ℕ} {release deadline instants : List ℕ} {active : List Bool} {lens grams : List ℕ} (arrays : OrderArrays n J release deadline instants active lens grams) where
   pub grams-most : (A : Doses) → weight n (λ k. getD grams k 0) A ≤ mostClassGrams
   unfolding weight
   grams-most A =
-      omega (arith, sheet .few-doses, sum-most n mostGrams (λ k. on (A k) (getD grams k 0)) (λ k l. omega (arith, on-below (A k) (getD grams k 0), sheet .light k)))
+      omega (arith, arrays .few-doses, sum-most n mostGrams (λ k. on (A k) (getD grams k 0)) (λ k l. omega (arith, on-below (A k) (getD grams k 0), arrays .light k)))
 
   pub time-most : (fans : List ℕ) → Below mostDoses fans → sum J (λ j. lenOf instants j * getD fans j 0) ≤ 1000000000
   time-most fans small =
-      omega (arith, sheet .few-intervals, sum-most J 14515200 (λ j. lenOf instants j * getD fans j 0) (λ j l. omega (arith, mul-le-mul (short j l) (small j))))
+      omega (arith, arrays .few-intervals, sum-most J 14515200 (λ j. lenOf instants j * getD fans j 0) (λ j l. omega (arith, mul-le-mul (short j l) (small j))))
     where
       short : (j : ℕ) → j < J → lenOf instants j ≤ week
-      short j l = omega (arith, sheet .same .len j l, sheet .short j)
+      short j l = omega (arith, arrays .same .len j l, arrays .short j)
 
 -- ---- what is worked out in the arrays is what a set weighs and opens
 

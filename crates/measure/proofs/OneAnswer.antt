@@ -7,7 +7,7 @@ use lib.ListN.{length, getD}
 use Rattle.model.specs.Limits.{mostDoses, mostIntervals}
 use Rattle.steps.proofs.Arrays.{filled-one, places-one}
 use Rattle.steps.proofs.Tests.{below-or}
-use Rattle.sheet.specs.Sheet.{setsOf}
+use Rattle.order_arrays.specs.Arrays.{setsOf}
 use Rattle.measure.specs.Measure.{Opens}
 
 pub set-one : (numbers : List ℕ) (i : ℕ) {r r′ : List Bool} → length r ≡ mostDoses → length r′ ≡ mostDoses

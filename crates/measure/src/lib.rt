@@ -16,7 +16,7 @@ ghost use Rattle.model.specs.Limits.{mostDoses, mostIntervals};
 ghost use Rattle.model.specs.Sets.{sum, weight};
 ghost use Rattle.model.specs.Sets as sets;
 ghost use Rattle.model.specs.Classes.{setNumber};
-ghost use Rattle.sheet.specs.Sheet.{setOf, setsOf, within, lenOf, Below};
+ghost use Rattle.order_arrays.specs.Arrays.{setOf, setsOf, within, lenOf, Below};
 ghost use Rattle.measure.specs.Measure.{countIn, Opens};
 
 // The doses of class i, by the number that each dose's class has.

@@ -10,8 +10,8 @@ use Rattle.model.specs.Records.{read, refused}
 use Rattle.model.specs.Layout.{slotsOf, tableSlots}
 use Rattle.model.specs.Answers.{Plans, no-room, overwritten, planBytes, refusal, refuses, unread}
 use Rattle.model.specs.Answers as answers
-use Rattle.layout.specs.declared.Tables.{Tables}
-use Rattle.layout.specs.Held.{shareAt, tableFrom}
+use Rattle.plan_layout.specs.declared.Tables.{Tables}
+use Rattle.plan_layout.specs.Held.{shareAt, tableFrom}
 use Rattle.classes.specs.declared.TooFast.{TooFast}
 use Rattle.classes.specs.Answer.{AgainstTop, nine}
 use Rattle.plan.specs.Held.{Holds, bytesFrom, membersFrom}

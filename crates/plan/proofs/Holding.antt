@@ -19,10 +19,10 @@ use Rattle.model.proofs.Intervals.{few-intervals, instants-rise, instants-week}
 use Rattle.model.proofs.Sequence.{few-classes}
 use Rattle.model.proofs.Slots.{Runs, few-slots, runs}
 use Rattle.model.proofs.Planner.{grams-most}
-use Rattle.layout.specs.declared.Tables.{Tables}
-use Rattle.layout.specs.Held.{fansAt, lenAt, shareAt, tableFrom}
-use Rattle.layout.specs.Laying.{Filled}
-use Rattle.layout.proofs.SameTables.{SameTables, gather-same, slots-same}
+use Rattle.plan_layout.specs.declared.Tables.{Tables}
+use Rattle.plan_layout.specs.Held.{fansAt, lenAt, shareAt, tableFrom}
+use Rattle.plan_layout.specs.Laying.{Filled}
+use Rattle.plan_layout.proofs.SameTables.{SameTables, gather-same, slots-same}
 use Rattle.plan.specs.Held.{Holds, bytesFrom, classFrom, classesFrom, membersFrom}
 
 module _ (o : Order) (t : Tables) (x : List ℕ) (m : List (List ℕ)) (h : Holds o t x m) where

@@ -13,9 +13,9 @@ use Rattle.model.specs.Plans.{Class, Slot, classRecord, planOf, planRecordBytes
 use Rattle.model.specs.Answers.{overwritten}
 use Rattle.model.proofs.Lists.{length-singles}
 use Rattle.model.proofs.Plans.{length-plan, length-records, records-append}
-use Rattle.layout.specs.declared.Tables.{Tables}
-use Rattle.layout.specs.Laying.{Wrote}
-use Rattle.layout.proofs.Runs.{gather-more, gather-none, wrote-one}
+use Rattle.plan_layout.specs.declared.Tables.{Tables}
+use Rattle.plan_layout.specs.Laying.{Wrote}
+use Rattle.plan_layout.proofs.Runs.{gather-more, gather-none, wrote-one}
 use Rattle.plan.specs.Held.{classFrom, classesFrom}
 
 abbrev one : Tables → ℕ → List Class

@@ -1,4 +1,4 @@
--- The classes, shares and plan that the arrays of `layout` hold.
+-- The classes, shares and plan that the arrays of `plan_layout` hold.
 use mathlib.Core.Path.{_≡_}
 use mathlib.Core.List.{List, [], _∷_}
 use Prim.Native.Nat.{ℕ, _+_, _-_, _%_, _<_, _≤_}
@@ -13,9 +13,9 @@ use Rattle.model.specs.Plans.{Class, planOf, recordsBytes}
 use Rattle.model.specs.Layout.{tableSlots}
 use Rattle.model.specs.Answers.{ValidShares}
 use Rattle.interval.specs.declared.Instants.{Instants}
-use Rattle.sheet.specs.Sheet.{setsOf}
-use Rattle.layout.specs.declared.Tables.{Tables}
-use Rattle.layout.specs.Held.{fansAt, shareAt, tableFrom}
+use Rattle.order_arrays.specs.Arrays.{setsOf}
+use Rattle.plan_layout.specs.declared.Tables.{Tables}
+use Rattle.plan_layout.specs.Held.{fansAt, shareAt, tableFrom}
 
 -- class i has the doses whose class it is
 abbrev pub membersFrom : Tables → ℕ → Doses

@@ -1,6 +1,6 @@
 // The tables that slots are laid by, from an order's instants and classes.
 use interval::Instants;
-use layout::Tables;
+use plan_layout::Tables;
 use steps::limits::MOST_DOSES;
 ghost use mathlib.Core.Path.{_≡_};
 ghost use Prim.Native.Nat.{ℕ, _%_, _<_};

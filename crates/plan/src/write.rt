@@ -1,7 +1,7 @@
 // The records of a plan in the lent buffer: "classes by number, then slots by interval, fan, start".
-use layout::Tables;
 use measure::set_of;
 use measure::size_of;
+use plan_layout::Tables;
 use records::Class;
 use records::RECORD_SIZE;
 use steps::limits::MOST_DOSES;
@@ -15,8 +15,8 @@ ghost use Rattle.model.specs.Plans.{classRecord};
 ghost use Rattle.model.specs.Layout.{tableSlots};
 ghost use Rattle.model.specs.Answers.{overwritten};
 ghost use Rattle.records.specs.Held.{asClass};
-ghost use Rattle.layout.specs.Held.{tableFrom};
-ghost use Rattle.layout.specs.Laying.{Filled, Wrote};
+ghost use Rattle.plan_layout.specs.Held.{tableFrom};
+ghost use Rattle.plan_layout.specs.Laying.{Filled, Wrote};
 ghost use Rattle.plan.specs.Held.{classFrom, classesFrom, bytesFrom};
 
 // "1 class number from 1; 2-3 doses in it; 4-7 W; 8-11 P"
@@ -59,6 +59,6 @@ pub fn write_plan(
     ensures bytes { λ _. ⌜ now (b .exit) ≡ overwritten (now (b .entry)) (bytesFrom t (now (shares .entry)) (now (reserved .entry))) ⌝ }
 {
     let first = put_classes(b, t);
-    let next = layout::lay_all(b, first, t, shares, reserved);
+    let next = plan_layout::lay_all(b, first, t, shares, reserved);
     next - first
 }

@@ -3,7 +3,7 @@ use mathlib.Core.Path.{refl}
 use borrow.Author.Needs.{needs}
 use Rattle.order.specs.Held.{asOrder}
 use Rattle.order.proofs.Fields.{fans-is, few-doses}
-use Rattle.sheet.proofs.OfOrder.{agree, sheet}
+use Rattle.order_arrays.proofs.OfOrder.{agree, arrays}
 use Rattle.classes.proofs.OnePhase.{blank}
 use Rattle.classes.proofs.OfOrder.{of-order}
 use Rattle.classes.proofs.classes_of.Statement.{statement}
@@ -39,7 +39,7 @@ phases-requires c κs =
     let active = c .before .before .before .before .before .before .before .before .before .before .before .before .before .active-in-order in
     let lens = c .before .before .before .before .before .before .before .before .before .before .before .before .lens-in in
     let grams = c .before .before .before .before .before .before .before .before .before .before .before .grams-in in
-    (refl, refl, sheet o (start .pre) (s .result) (s .ensures) (J .result) (J .ensures) (active .result) (lens .result) (grams .result) (active .ensures) (lens .ensures) (grams .ensures), blank)
+    (refl, refl, arrays o (start .pre) (s .result) (s .ensures) (J .result) (J .ensures) (active .result) (lens .result) (grams .result) (active .ensures) (lens .ensures) (grams .ensures), blank)
 
 returns : tie.Need-returns
 returns c =

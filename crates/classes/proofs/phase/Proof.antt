@@ -3,7 +3,7 @@ use mathlib.Core.Path.{refl}
 use native.Mathlib.Omega.{arith}
 use borrow.Author.Needs.{needs}
 use Rattle.classes.proofs.OnePhase.{some-remain, some-size, so-far-next}
-use Rattle.sheet.specs.Sheet.{setOf}
+use Rattle.order_arrays.specs.Arrays.{setOf}
 use Rattle.classes.proofs.phase.Statement.{statement}
 use Rattle.classes.proofs.phase.Tie as tie
 
@@ -17,9 +17,9 @@ next-class-requires : tie.Need-next-class-requires
 next-class-requires c κs =
     let start = c .before .before .before .before .before in
     let A = start .args in
-    let sheet = start .pre .1 in
+    let arrays = start .pre .1 in
     let so = start .pre .2 in
-    (refl, sheet, some-remain (A .doses) (A .intervals) (A .active .now) (A .lens .now) (A .grams .now) (λ j. A .fans) (sheet .few-doses) (sheet .few-intervals) (A .tally) _ _ so (start .pre .3), so .past .no-rest)
+    (refl, arrays, some-remain (A .doses) (A .intervals) (A .active .now) (A .lens .now) (A .grams .now) (λ j. A .fans) (arrays .few-doses) (arrays .few-intervals) (A .tally) _ _ so (start .pre .3), so .past .no-rest)
 
 reserve-requires : tie.Need-reserve-requires
 reserve-requires c κs = search needs
@@ -41,14 +41,14 @@ returns : tie.Need-returns
 returns c =
     let start = c .before .before .before .before .before .before .before .before .before .before .before .before .before .before .before .before .before in
     let A = start .args in
-    let sheet = start .pre .1 in
+    let arrays = start .pre .1 in
     let left = c .before .before .before .before .before .before .before .before .before .before .before .before .before .before .free-fans in
     let next = c .before .before .before .before .before .before .before .before .before .before .before .next-class in
     let row = c .before .before .before .before .before .before .before .reserve .ensures in
     let kept = c .before .before .before .keep-shares .ensures in
     let after = c .after in (
-      so-far-next (A .doses) (A .intervals) (A .active .now) (A .lens .now) (A .grams .now) (λ j. A .fans) (sheet .few-doses) (sheet .few-intervals) (A .tally) _ _ (start .pre .2) (start .pre .3)
-          (left .result) (left .ensures) (next .result .members) _ (next .result .reserved) _ _ (next .ensures .measured) (next .ensures .chosen) (after .result) _ _ (after .ensures) row kept (sheet .no-interval),
+      so-far-next (A .doses) (A .intervals) (A .active .now) (A .lens .now) (A .grams .now) (λ j. A .fans) (arrays .few-doses) (arrays .few-intervals) (A .tally) _ _ (start .pre .2) (start .pre .3)
+          (left .result) (left .ensures) (next .result .members) _ (next .result .reserved) _ _ (next .ensures .measured) (next .ensures .chosen) (after .result) _ _ (after .ensures) row kept (arrays .no-interval),
       omega (arith, after .ensures .classed, some-size (A .doses) (setOf (next .result .members)) (next .ensures .chosen .next .some)),
     )
 

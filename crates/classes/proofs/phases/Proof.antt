@@ -5,7 +5,7 @@ use lib.ListN.{length}
 use native.Mathlib.Omega.{arith}
 use borrow.Author.Needs.{needs}
 use Rattle.model.specs.Limits.{cells}
-use Rattle.sheet.specs.Sheet.{settingFrom}
+use Rattle.order_arrays.specs.Arrays.{settingFrom}
 use Rattle.classes.specs.Phase.{SoFar}
 use Rattle.classes.proofs.OnePhase.{so-far-start}
 use Rattle.classes.proofs.phases.Statement.{statement}
@@ -23,9 +23,9 @@ start-requires c κs = search needs
 loop-holds : tie.Need-loop-holds Inv-loop μ-loop
 loop-holds c =
     let A = c .before .before .args in
-    let sheet = c .before .before .pre .2 in
+    let arrays = c .before .before .pre .2 in
     let z = c .start .ensures in
-    (c .before .before .pre .0, omega (arith, z .classed), so-far-start (A .doses) (A .intervals) (A .active .now) (A .lens .now) (A .grams .now) (λ j. A .fans) (sheet .few-doses) (sheet .few-intervals) _ _ _ z (c .before .before .pre .1) (c .before .before .pre .3))
+    (c .before .before .pre .0, omega (arith, z .classed), so-far-start (A .doses) (A .intervals) (A .active .now) (A .lens .now) (A .grams .now) (λ j. A .fans) (arrays .few-doses) (arrays .few-intervals) _ _ _ z (c .before .before .pre .1) (c .before .before .pre .3))
 
 phase-requires : tie.Need-phase-requires Inv-loop μ-loop
 phase-requires c κs = (c .before .before .before .before .loop .inv .0, c .before .before .before .before .before .before .before .pre .2, c .before .before .before .before .loop .inv .2, c .before .before .if1 .taken)

@@ -1,6 +1,6 @@
 -- `all_pass` meets its contract: each test asks for one clause; later ones rest on earlier ones (Clauses).
-use Rattle.clauses.specs.Tests.{sheet}
-use Rattle.clauses.proofs.Tell.{tells-by, tells-not, tells-off, tells-was}
+use Rattle.judge_clauses.specs.Tests.{orderHeld}
+use Rattle.judge_clauses.proofs.Tell.{tells-by, tells-not, tells-off, tells-was}
 use Rattle.judge.proofs.Clauses.{counts-of, ready-of}
 use native.Mathlib.Omega.{arith}
 use Rattle.judge.proofs.all_pass.Statement.{statement}
@@ -42,7 +42,7 @@ all-clear-requires c κs =
     let A = c .before .before .before .before .before .before .before .before .before .args in
     let f = tells-was (c .before .before .before .slots-fit .ensures) (c .before .before .if3 .left) in
     let t = tells-was (c .before .all-in-turn .ensures) (c .if4 .left) in
-    (c .before .before .before .before .before .before .before .before .before .pre .2, ready-of (sheet (A .doses) (A .intervals) (A .fans) (A .release .now) (A .deadline .now) (A .grams .now) (A .instants .now)) (A .plan .now) (A .p) (A .numbers .now) f t)
+    (c .before .before .before .before .before .before .before .before .before .pre .2, ready-of (orderHeld (A .doses) (A .intervals) (A .fans) (A .release .now) (A .deadline .now) (A .grams .now) (A .instants .now)) (A .plan .now) (A .p) (A .numbers .now) f t)
 
 returns-5 : tie.Need-returns-5
 returns-5 c = tells-off (λ h. tells-not (c .before .all-clear .ensures) (c .if5 .taken) (h .apart))
@@ -53,7 +53,7 @@ units-met-requires c κs =
     let r = tells-was (c .before .before .before .before .before .before .before .before .before .rows-pass .ensures) (c .before .before .before .before .before .before .before .before .if1 .left) in
     let q = c .before .before .before .before .before .before .before .before .before .before .before .pre .0 in
     let f = tells-was (c .before .before .before .before .before .slots-fit .ensures) (c .before .before .before .before .if3 .left) in
-    (c .before .before .before .before .before .before .before .before .before .before .before .pre .1, q, λ k l. (r .numbered k l .0, omega (arith, r .numbered k l .1)), counts-of (sheet (A .doses) (A .intervals) (A .fans) (A .release .now) (A .deadline .now) (A .grams .now) (A .instants .now)) (A .plan .now) (A .p) (A .numbers .now) f)
+    (c .before .before .before .before .before .before .before .before .before .before .before .pre .1, q, λ k l. (r .numbered k l .0, omega (arith, r .numbered k l .1)), counts-of (orderHeld (A .doses) (A .intervals) (A .fans) (A .release .now) (A .deadline .now) (A .grams .now) (A .instants .now)) (A .plan .now) (A .p) (A .numbers .now) f)
 
 returns-6 : tie.Need-returns-6
 returns-6 c =

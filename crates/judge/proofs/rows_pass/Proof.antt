@@ -1,5 +1,5 @@
 -- `rows_pass` meets its contract: each test asks for one clause.
-use Rattle.clauses.proofs.Tell.{tells-by, tells-not, tells-off, tells-was}
+use Rattle.judge_clauses.proofs.Tell.{tells-by, tells-not, tells-off, tells-was}
 use native.Mathlib.Omega.{arith}
 use borrow.Author.Needs.{needs}
 use Rattle.judge.proofs.rows_pass.Statement.{statement}

@@ -7,7 +7,7 @@ use lib.ListN.{length, getD, length-set}
 use native.Mathlib.Omega.{arith}
 use borrow.Author.Needs.{needs}
 use Rattle.model.specs.Limits.{mostDoses}
-use Rattle.sheet.specs.Sheet.{setsOf}
+use Rattle.order_arrays.specs.Arrays.{setsOf}
 use Rattle.steps.proofs.Loops.{stored}
 use Rattle.measure.proofs.set_of.Statement.{statement}
 use Rattle.measure.proofs.set_of.Tie as tie

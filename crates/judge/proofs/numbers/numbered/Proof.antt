@@ -2,7 +2,7 @@
 use Prim.Native.Nat.{ℕ, _-_, _<_, _≤_}
 use lib.ListN.{getD}
 use borrow.Author.Count.{below-more}
-use Rattle.clauses.proofs.Tell.{tells-off, tells-on}
+use Rattle.judge_clauses.proofs.Tell.{tells-off, tells-on}
 use borrow.Author.Needs.{needs}
 use native.Mathlib.Omega.{arith}
 use Rattle.judge.proofs.numbers.numbered.Statement.{statement}

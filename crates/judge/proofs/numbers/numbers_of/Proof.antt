@@ -2,7 +2,7 @@
 use mathlib.Core.Path.{_≡_, refl}
 use Prim.Native.Nat.{_-_, _/_, _≤_}
 use lib.ListN.{length}
-use Rattle.clauses.specs.Tests.{Numbers}
+use Rattle.judge_clauses.specs.Tests.{Numbers}
 use Rattle.judge.proofs.Naming.{numbers-more, numbers-none, numbers-to}
 use native.Mathlib.Omega.{arith}
 use Rattle.judge.proofs.numbers.numbers_of.Statement.{statement}

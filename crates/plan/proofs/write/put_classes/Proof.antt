@@ -6,7 +6,7 @@ use native.Mathlib.Omega.{arith}
 use lib.ListN.{length}
 use Rattle.model.specs.Lists.{gather}
 use Rattle.model.specs.Plans.{classRecord}
-use Rattle.layout.specs.Laying.{Wrote}
+use Rattle.plan_layout.specs.Laying.{Wrote}
 use Rattle.plan.specs.Held.{classFrom}
 use Rattle.plan.proofs.Writing.{classes-all, classes-more, classes-none}
 use borrow.Author.Needs.{needs}

@@ -1,7 +1,7 @@
 -- `write_plan` meets its contract: the C records, the S records behind them, and the rest of the buffer as before (Writing).
 use native.Mathlib.Omega.{arith}
 use Rattle.model.proofs.Lists.{length-singles}
-use Rattle.layout.proofs.Runs.{wrote-length}
+use Rattle.plan_layout.proofs.Runs.{wrote-length}
 use Rattle.plan.specs.Held.{classFrom}
 use Rattle.plan.proofs.Writing.{classes-next, plan-written}
 use borrow.Author.Needs.{needs}

@@ -1,0 +1,39 @@
+-- Laws of the arrays that are filled for a candidate. Assumes nothing.
+use mathlib.Core.Bool.{Bool, true, false, _&&_}
+use mathlib.Core.List.{List}
+use mathlib.Core.Logic.{inl, inr}
+use mathlib.Core.Path.{_≡_, refl, sym}
+use Prim.Native.Nat.{ℕ, _+_, _*_, _/_, _%_, _<_, _≤_}
+use native.Mathlib.Omega.{arith}
+use lib.Arith.{digits-div, digits-mod}
+use lib.Dec.{T}
+use lib.ListN.{length, getD, List·getD-eq-default}
+use Rattle.model.specs.Limits.{mostIntervals}
+use Rattle.model.specs.Sets.{on, Doses}
+use Rattle.model.proofs.Fractions.{compare≤}
+use Rattle.order_arrays.proofs.Laws.{and-false}
+use Rattle.class_rounds.specs.Rounds.{NonePast}
+
+-- a room by dose and interval, and by its place
+pub room-place : (active set : List Bool) (lens : List ℕ) (w k j : ℕ) → j < mostIntervals
+    → on (getD set k false) (on (getD active (k * mostIntervals + j) false) (getD lens j 0 * w)) ≡ on (getD set ((k * mostIntervals + j) / mostIntervals) false) (on (getD active (k * mostIntervals + j) false) (getD lens ((k * mostIntervals + j) % mostIntervals) 0 * w))
+room-place active set lens w k j h = rw (digits-div k h, digits-mod k h)
+
+-- marks of both arrays, also past their ends
+pub marks-both : (n : ℕ) (dead set part : List Bool) → length set ≡ n → length part ≡ n
+    → ((k : ℕ) → k < n → getD part k false ≡ (getD dead k false && getD set k false)) → (k : ℕ) → getD part k false ≡ (getD dead k false && getD set k false)
+marks-both n dead set part e g all k = elim (compare≤ n k) [
+  | inl h ↦ rw (past part (omega arith), past set (omega arith)) (sym (and-false (getD dead k false)))
+  | inr h ↦ all k h
+]
+  where
+    past : (l : List Bool) → length l ≤ k → getD l k false ≡ false
+    past l h = List·getD-eq-default l false {n = k} h
+
+-- a set without members past the doses has no part there
+pub none-past : (n : ℕ) (A B : Doses) → ((k : ℕ) → T (A k) → T (B k)) → NonePast n B → NonePast n A
+none-past n A B f none k g l = off (A k) (f k) (none k g l)
+  where
+    off : (a : Bool) {b : Bool} → (T a → T b) → b ≡ false → a ≡ false
+    off true f e = absurd (rw e at (f tt))
+    off false f e = refl

@@ -1,0 +1,87 @@
+-- `holds_of` meets its contract: every interval passed has its reserved time.
+use Prim.Native.Nat.{ℕ, _<_, _≤_, _-_, _*_}
+use mathlib.Core.Path.{_≡_, refl}
+use lib.ListN.{length, getD, length-set}
+use native.Mathlib.Omega.{arith}
+use borrow.Author.Needs.{needs}
+use Rattle.model.specs.Limits.{mostClassGrams, mostIntervals, week}
+use Rattle.steps.proofs.Loops.{stored}
+use native.Mathlib.Nat.{mul-le-mul}
+use Rattle.class_rounds.proofs.holds_of.Statement.{statement}
+use Rattle.class_rounds.proofs.holds_of.Tie as tie
+
+abbrev Inv-loop : tie.InvT-loop
+Inv-loop lens w reserved holds₀ j₀ holds j = (j ≤ mostIntervals) × (length holds ≡ mostIntervals) × ((m : ℕ) → m < j → getD holds m 0 ≡ getD reserved m 0 * (getD lens m 0 * w))
+
+abbrev μ-loop : tie.MeasureT-loop
+μ-loop lens w reserved holds₀ j₀ holds j = mostIntervals - j
+
+loop-holds : tie.Need-loop-holds Inv-loop μ-loop
+loop-holds c = (omega arith, search needs, λ k h. absurd (omega arith))
+
+mul-holds : tie.Need-mul-holds Inv-loop μ-loop
+mul-holds c = search needs
+
+array-read-holds : tie.Need-array-read-holds Inv-loop μ-loop
+array-read-holds c = search needs
+
+mul-holds-2 : tie.Need-mul-holds-2 Inv-loop μ-loop
+mul-holds-2 c = search needs
+
+element-copy-out-holds : tie.Need-element-copy-out-holds Inv-loop μ-loop
+element-copy-out-holds c = search needs
+
+mul-holds-3 : tie.Need-mul-holds-3 Inv-loop μ-loop
+mul-holds-3 c =
+    let A = c .before .before .before .args in
+    let L = c .before .before .loop in
+    let t : getD (A .lens .now) (L .j) 0 * A .w ≤ week * mostClassGrams = mul-le-mul (c .before .before .before .pre .0 (L .j)) (c .before .before .before .pre .2) in
+    omega arith
+
+mul-holds-4 : tie.Need-mul-holds-4 Inv-loop μ-loop
+mul-holds-4 c =
+    let A = c .before .before .before .args in
+    let L = c .before .before .loop in
+    let t : getD (A .lens .now) (L .j) 0 * A .w ≤ week * mostClassGrams = mul-le-mul (c .before .before .before .pre .0 (L .j)) (c .before .before .before .pre .2) in
+    omega (arith, mul-le-mul (c .before .before .before .pre .1 (L .j)) t)
+
+mul-holds-5 : tie.Need-mul-holds-5 Inv-loop μ-loop
+mul-holds-5 c = search needs
+
+array-write-holds : tie.Need-array-write-holds Inv-loop μ-loop
+array-write-holds c = search needs
+
+add-j : tie.Need-add-j Inv-loop μ-loop
+add-j c = search needs
+
+loop-less : tie.Need-loop-less Inv-loop μ-loop
+loop-less c = search needs
+
+loop-again : tie.Need-loop-again Inv-loop μ-loop
+loop-again c =
+    let A = c .before .before .before .args in
+    let L = c .before .before .loop in
+    (omega arith, simp length-set (L .inv .1), stored 0 (λ j. getD (A .t2) j 0 * (getD (A .lens .now) j 0 * A .w)) (L .holds) (L .j) _ (omega arith) (L .inv .2) refl)
+
+returns : tie.Need-returns Inv-loop μ-loop
+returns c = λ k h. c .before .loop .inv .2 k (omega arith)
+
+pub holds-of-spec : {M : Type 1} → statement M
+holds-of-spec =
+    tie.close
+    (tie.spec
+    Inv-loop
+    μ-loop
+    loop-holds
+    mul-holds
+    array-read-holds
+    mul-holds-2
+    element-copy-out-holds
+    mul-holds-3
+    mul-holds-4
+    mul-holds-5
+    array-write-holds
+    add-j
+    loop-less
+    loop-again
+    returns)

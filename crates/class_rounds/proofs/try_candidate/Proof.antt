@@ -1,0 +1,100 @@
+-- `try_candidate` meets its contract: the arrays are those that the candidate asks for (OneRound).
+use mathlib.Core.Path.{refl}
+use native.Mathlib.Omega.{arith}
+use borrow.Author.Needs.{needs}
+use Rattle.order_arrays.specs.Arrays.{setOf, rowOf}
+use Rattle.measure.proofs.Laws.{grams-most, measured, measured-same, time-most}
+use Rattle.class_rounds.proofs.OneRound.{tried}
+use Rattle.class_rounds.proofs.try_candidate.Statement.{statement}
+use Rattle.class_rounds.proofs.try_candidate.Tie as tie
+
+grams-of-requires : tie.Need-grams-of-requires
+grams-of-requires c κs = search needs
+
+open-fans-requires : tie.Need-open-fans-requires
+open-fans-requires c κs = search needs
+
+fan-time-requires : tie.Need-fan-time-requires
+fan-time-requires c κs = (c .before .before .before .pre .1 .few-intervals, c .open-fans .ensures .small)
+
+-- W fits
+lay-rooms-requires : tie.Need-lay-rooms-requires
+lay-rooms-requires c κs =
+    let start = c .before .before .before .before .before in
+    let arrays = start .pre .1 in
+    (search needs, arrays .short, omega (arith, c .before .before .before .grams-of .ensures, grams-most arrays (setOf (start .args .set))))
+
+holds-of-requires : tie.Need-holds-of-requires
+holds-of-requires c κs =
+    let start = c .before .before .before .before .before .before in
+    let arrays = start .pre .1 in
+    (arrays .short, c .before .before .before .open-fans .ensures .small, omega (arith, c .before .before .before .before .grams-of .ensures, grams-most arrays (setOf (start .args .set))))
+
+-- and P
+needs-of-requires : tie.Need-needs-of-requires
+needs-of-requires c κs =
+    let arrays = c .before .before .before .before .before .before .before .pre .1 in
+    let opened = c .before .before .before .before .open-fans in
+    omega (arith, c .before .before .before .fan-time .ensures, time-most arrays (opened .result) (opened .ensures .small))
+
+slice-aggregate-find-shares : tie.Need-slice-aggregate-find-shares
+slice-aggregate-find-shares c = search needs
+
+slice-aggregate-find-shares-2 : tie.Need-slice-aggregate-find-shares-2
+slice-aggregate-find-shares-2 c = search needs
+
+slice-aggregate-find-shares-3 : tie.Need-slice-aggregate-find-shares-3
+slice-aggregate-find-shares-3 c = search needs
+
+find-shares-requires : tie.Need-find-shares-requires
+find-shares-requires c κs = search needs
+
+slice-aggregate-all-met : tie.Need-slice-aggregate-all-met
+slice-aggregate-all-met c = search needs
+
+all-met-requires : tie.Need-all-met-requires
+all-met-requires c κs = search needs
+
+dead-part-requires : tie.Need-dead-part-requires
+dead-part-requires c κs = search needs
+
+same-length : tie.Need-same-length
+same-length c = search needs
+
+-- W, P and open fans are worked out by the windows, and so they are those of the table
+returns : tie.Need-returns
+returns c =
+    let start = c .before .before .before .before .before .before .before .before .before .before .before .before .before .before .before .before .before .before .before in
+    let A = start .args in
+    let arrays = start .pre .1 in
+    let weighed = c .before .before .before .before .before .before .before .before .before .before .before .before .before .before .before .before .before .grams-of in
+    let opened = c .before .before .before .before .before .before .before .before .before .before .before .before .before .before .before .before .open-fans in
+    let timed = c .before .before .before .before .before .before .before .before .before .before .before .before .before .before .before .fan-time in
+    let roomy = c .before .before .before .before .before .before .before .before .before .before .before .before .before .lay-rooms .ensures .1 in
+    let held = c .before .before .before .before .before .before .before .before .before .before .before .before .holds-of .ensures in
+    let needed = c .before .before .before .before .before .before .before .before .before .before .before .needs-of .ensures in
+    let raised = c .before .before .before .before .before .before .find-shares .ensures in
+    let by-windows = measured (A .doses) (A .intervals) (A .release .now) (A .deadline .now) (A .grams .now) (A .instants .now) (setOf (A .set)) (A .set) (λ k l. refl) (rowOf (A .free)) (A .free) (λ j l. refl)
+    (opened .result) (weighed .result) (timed .result) (opened .ensures) (weighed .ensures) (timed .ensures) in
+    let known = measured-same _ _ (arrays .same) by-windows in
+    (known, opened .ensures .small, tried _ _ _ _ _ _ _ _ (A .free) (A .set) arrays (opened .result) _ _ known _ _ _ roomy held needed _ _ (c .dead-part .result) _ raised (c .before .all-met .ensures) (c .dead-part .ensures))
+
+pub try-candidate-spec : {M : Type 1} → statement M
+try-candidate-spec =
+    tie.close
+    (tie.spec
+    grams-of-requires
+    open-fans-requires
+    fan-time-requires
+    lay-rooms-requires
+    holds-of-requires
+    needs-of-requires
+    slice-aggregate-find-shares
+    slice-aggregate-find-shares-2
+    slice-aggregate-find-shares-3
+    find-shares-requires
+    slice-aggregate-all-met
+    all-met-requires
+    dead-part-requires
+    same-length
+    returns)

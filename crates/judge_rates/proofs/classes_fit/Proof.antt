@@ -1,0 +1,119 @@
+-- `classes_fit` meets its contract: every class passed fits, and the row has the fans that the classes passed leave (Fitting).
+use Prim.Native.Nat.{ℕ, _-_, _<_, _≤_}
+use native.Mathlib.Omega.{arith}
+use borrow.Author.Count.{below-more}
+use borrow.Author.Needs.{needs}
+use lib.ListN.{getD-replicate}
+use Rattle.model.specs.Limits.{mostIntervals}
+use Rattle.order_arrays.specs.Arrays.{setsOf}
+use Rattle.measure.proofs.Free.{Frees, frees-all}
+use Rattle.records.specs.Plan.{classIn}
+use Rattle.judge_clauses.specs.Tests.{ClassFits, fansIn, settingIn, orderHeld}
+use Rattle.judge_clauses.proofs.Tell.{tells-not, tells-off, tells-on, tells-was}
+use Rattle.judge_rates.proofs.Fitting.{frees-after, says-fits}
+use Rattle.judge_rates.proofs.classes_fit.Statement.{statement}
+use Rattle.judge_rates.proofs.classes_fit.Tie as tie
+
+abbrev Inv-loop : tie.InvT-loop
+Inv-loop plan p numbers release deadline grams instants doses intervals fans all free₀ i₀ free i =
+    let h = orderHeld doses intervals fans release deadline grams instants in
+    (i ≤ p) × Frees (settingIn h) (fansIn h) (setsOf numbers) i free × ((k : ℕ) → k < i → ClassFits h numbers k (classIn plan k))
+
+abbrev μ-loop : tie.MeasureT-loop
+μ-loop plan p numbers release deadline grams instants doses intervals fans all free₀ i₀ free i = p - i
+
+loop-holds : tie.Need-loop-holds Inv-loop μ-loop
+loop-holds c = (
+  omega arith,
+  frees-all _ _ _ _ (λ j l. getD-replicate mostIntervals j (c .before .args .fans) 0 (omega arith)),
+  λ k l. absurd (omega arith),
+)
+
+set-of-requires : tie.Need-set-of-requires Inv-loop μ-loop
+set-of-requires c κs = search needs
+
+open-fans-requires : tie.Need-open-fans-requires Inv-loop μ-loop
+open-fans-requires c κs = search needs
+
+fan-time-requires : tie.Need-fan-time-requires Inv-loop μ-loop
+fan-time-requires c κs = (omega arith, c .open-fans .ensures .small)
+
+grams-of-requires : tie.Need-grams-of-requires Inv-loop μ-loop
+grams-of-requires c κs = search needs
+
+size-of-requires : tie.Need-size-of-requires Inv-loop μ-loop
+size-of-requires c κs = search needs
+
+class-at-requires : tie.Need-class-at-requires Inv-loop μ-loop
+class-at-requires c κs = search needs
+
+says-requires : tie.Need-says-requires Inv-loop μ-loop
+says-requires c κs = search needs
+
+returns : tie.Need-returns Inv-loop μ-loop
+returns c =
+    let start = c .before .before .before .before .before .before .before .before .before .before .before in
+    let A = start .args in
+    let L = c .before .before .before .before .before .before .before .before .before .loop in
+    let h = orderHeld (A .doses) (A .intervals) (A .fans) (A .release .now) (A .deadline .now) (A .grams .now) (A .instants .now) in
+    let marked = c .before .before .before .before .before .before .before .set-of in
+    let opened = c .before .before .before .before .before .before .open-fans in
+    let timed = c .before .before .before .before .before .fan-time in
+    let weighed = c .before .before .before .before .grams-of in
+    let counted = c .before .before .before .size-of in
+    let read = c .before .before .class-at in
+    let tells = says-fits h (start .pre .2) (start .pre .3) (A .numbers .now) (L .i) (L .free) (L .inv .1) (marked .result) (marked .ensures) (opened .result) (opened .ensures) (counted .result) (weighed .result) (timed .result) (counted .ensures .0) (weighed .ensures) (timed .ensures) _ (c .before .says .ensures) in
+    tells-off (λ all. tells-not tells (c .if1 .taken) (rw (read .ensures) (all (L .i) (c .before .before .before .before .before .before .before .before .loop-test .taken))))
+
+free-after-requires : tie.Need-free-after-requires Inv-loop μ-loop
+free-after-requires c κs = search needs
+
+add-i : tie.Need-add-i Inv-loop μ-loop
+add-i c = search needs
+
+loop-less : tie.Need-loop-less Inv-loop μ-loop
+loop-less c = search needs
+
+loop-again : tie.Need-loop-again Inv-loop μ-loop
+loop-again c =
+    let start = c .before .before .before .before .before .before .before .before .before .before .before .before in
+    let A = start .args in
+    let L = c .before .before .before .before .before .before .before .before .before .before .loop in
+    let h = orderHeld (A .doses) (A .intervals) (A .fans) (A .release .now) (A .deadline .now) (A .grams .now) (A .instants .now) in
+    let marked = c .before .before .before .before .before .before .before .before .set-of in
+    let opened = c .before .before .before .before .before .before .before .open-fans in
+    let timed = c .before .before .before .before .before .before .fan-time in
+    let weighed = c .before .before .before .before .before .grams-of in
+    let counted = c .before .before .before .before .size-of in
+    let read = c .before .before .before .class-at in
+    let tells = says-fits h (start .pre .2) (start .pre .3) (A .numbers .now) (L .i) (L .free) (L .inv .1) (marked .result) (marked .ensures) (opened .result) (opened .ensures) (counted .result) (weighed .result) (timed .result) (counted .ensures .0) (weighed .ensures) (timed .ensures) _ (c .before .before .says .ensures) in (
+      omega (arith, c .before .before .before .before .before .before .before .before .before .loop-test .taken),
+      frees-after h (start .pre .2) (start .pre .3) (A .numbers .now) (L .i) (L .free) (L .inv .1) (marked .result) (marked .ensures) (opened .result) (opened .ensures) (counted .result) (weighed .result) (timed .result) (counted .ensures .0) (weighed .ensures) (timed .ensures) _ (c .free-after .ensures),
+      below-more _ _ (L .inv .2) (rw (read .ensures) at (tells-was tells (c .before .if1 .left))),
+    )
+
+returns-2 : tie.Need-returns-2 Inv-loop μ-loop
+returns-2 c =
+    let L = c .before .loop in
+    tells-on (λ k l. L .inv .2 k (omega arith))
+
+pub classes-fit-spec : {M : Type 1} → statement M
+classes-fit-spec =
+    tie.close
+    (tie.spec
+    Inv-loop
+    μ-loop
+    loop-holds
+    set-of-requires
+    open-fans-requires
+    fan-time-requires
+    grams-of-requires
+    size-of-requires
+    class-at-requires
+    says-requires
+    returns
+    free-after-requires
+    add-i
+    loop-less
+    loop-again
+    returns-2)

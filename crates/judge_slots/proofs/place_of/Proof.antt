@@ -1,0 +1,63 @@
+-- `place_of` meets its contract: the search from the interval reached finds what the whole search finds.
+use mathlib.Core.Path.{_≡_, _∙_, sym}
+use Prim.Native.Nat.{_+_, _-_, _≤_}
+use native.Mathlib.Nat.{sub-zero}
+use Rattle.judge_clauses.specs.Tests.{placeOf, scan}
+use Rattle.judge_slots.proofs.Places.{scan-none, scan-on, scan-stop}
+use borrow.Author.Needs.{needs}
+use native.Mathlib.Omega.{arith}
+use Rattle.judge_slots.proofs.place_of.Statement.{statement}
+use Rattle.judge_slots.proofs.place_of.Tie as tie
+
+abbrev Inv-loop : tie.InvT-loop
+Inv-loop instants intervals tick j₀ j = (j ≤ intervals) × (scan instants tick j (intervals - j) ≡ placeOf instants intervals tick)
+
+abbrev μ-loop : tie.MeasureT-loop
+μ-loop instants intervals tick j₀ j = intervals - j
+
+loop-holds : tie.Need-loop-holds Inv-loop μ-loop
+loop-holds c = (omega arith, rw sub-zero)
+
+add-if1 : tie.Need-add-if1 Inv-loop μ-loop
+add-if1 c = search needs
+
+mul-if1 : tie.Need-mul-if1 Inv-loop μ-loop
+mul-if1 c = search needs
+
+element-copy-out-if1 : tie.Need-element-copy-out-if1 Inv-loop μ-loop
+element-copy-out-if1 c = search needs
+
+returns : tie.Need-returns Inv-loop μ-loop
+returns c = (sym (scan-stop _ _ _ _ (omega arith) (c .if1 .taken)) ∙ c .before .before .before .loop .inv .1, omega arith)
+
+add-j : tie.Need-add-j Inv-loop μ-loop
+add-j c = search needs
+
+loop-less : tie.Need-loop-less Inv-loop μ-loop
+loop-less c = search needs
+
+loop-again : tie.Need-loop-again Inv-loop μ-loop
+loop-again c =
+    let L = c .before .before .before .loop in
+    let J = c .before .before .before .before .args .intervals in
+    let e : J - (L .j + 1) ≡ J - L .j - 1 = omega arith in
+    (omega arith, rw e (sym (scan-on _ _ _ _ (omega arith) (c .if1 .left)) ∙ L .inv .1))
+
+returns-2 : tie.Need-returns-2 Inv-loop μ-loop
+returns-2 c = (sym (scan-none _ _ _ _ (omega arith)) ∙ c .before .loop .inv .1, omega arith)
+
+pub place-of-spec : {M : Type 1} → statement M
+place-of-spec =
+    tie.close
+    (tie.spec
+    Inv-loop
+    μ-loop
+    loop-holds
+    add-if1
+    mul-if1
+    element-copy-out-if1
+    returns
+    add-j
+    loop-less
+    loop-again
+    returns-2)

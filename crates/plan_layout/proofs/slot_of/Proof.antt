@@ -1,0 +1,76 @@
+-- `slot_of` meets its contract: ticks and parts are what division by W gives and leaves, and no tick is past the week (Shares).
+use mathlib.Core.Path.{refl}
+use native.Mathlib.Nat.{mod-lt}
+use native.Mathlib.Omega.{arith}
+use Rattle.model.specs.Layout.{pieceSlot}
+use Rattle.plan_layout.specs.Held.{asLane}
+use Rattle.plan_layout.proofs.Shares.{tick}
+use borrow.Author.Needs.{needs}
+use Rattle.plan_layout.proofs.slot_of.Statement.{statement}
+use Rattle.plan_layout.proofs.slot_of.Tie as tie
+
+cast-w : tie.Need-cast-w
+cast-w c = search needs
+
+cast-t7 : tie.Need-cast-t7
+cast-t7 c = search needs
+
+add-t8 : tie.Need-add-t8
+add-t8 c = search needs
+
+add-t9 : tie.Need-add-t9
+add-t9 c = search needs
+
+div-t10 : tie.Need-div-t10
+div-t10 c = search needs
+
+cast-t11 : tie.Need-cast-t11
+cast-t11 c = omega (arith, tick (asLane (c .before .before .args .l)) (c .before .before .pre .0) (c .before .before .args .low) (c .before .before .pre .2))
+
+add-t12 : tie.Need-add-t12
+add-t12 c = omega (arith, tick (asLane (c .before .before .before .args .l)) (c .before .before .before .pre .0) (c .before .before .before .args .low) (c .before .before .before .pre .2))
+
+rem-t13 : tie.Need-rem-t13
+rem-t13 c = search needs
+
+cast-t14 : tie.Need-cast-t14
+cast-t14 c = omega (arith, mod-lt (c .before .before .before .args .low) (c .before .before .before .pre .0 .heavy))
+
+div-t15 : tie.Need-div-t15
+div-t15 c = search needs
+
+cast-t16 : tie.Need-cast-t16
+cast-t16 c = omega (arith, tick (asLane (c .before .before .before .args .l)) (c .before .before .before .pre .0) (c .before .before .before .args .high) (c .before .before .before .pre .3))
+
+add-t17 : tie.Need-add-t17
+add-t17 c = omega (arith, tick (asLane (c .before .before .before .before .args .l)) (c .before .before .before .before .pre .0) (c .before .before .before .before .args .high) (c .before .before .before .before .pre .3))
+
+rem-t18 : tie.Need-rem-t18
+rem-t18 c = search needs
+
+cast-t19 : tie.Need-cast-t19
+cast-t19 c = omega (arith, mod-lt (c .before .before .before .before .args .high) (c .before .before .before .before .pre .0 .heavy))
+
+returns : tie.Need-returns
+unfolding pieceSlot
+returns c = refl
+
+pub slot-of-spec : {M : Type 1} → statement M
+slot-of-spec =
+    tie.close
+    (tie.spec
+    cast-w
+    cast-t7
+    add-t8
+    add-t9
+    div-t10
+    cast-t11
+    add-t12
+    rem-t13
+    cast-t14
+    div-t15
+    cast-t16
+    add-t17
+    rem-t18
+    cast-t19
+    returns)
