@@ -1,24 +1,24 @@
 -- `dead_part` meets its contract: every dose passed is marked where it is in both.
-use Prim.Native.Nat.{ℕ, _<_, _≤_, _-_}
-use mathlib.Core.Path.{_≡_}
+use Prim.Native.Nat.{_-_}
+use mathlib.Core.Path.{refl}
 use mathlib.Core.Bool.{false, _&&_}
-use lib.ListN.{length, getD, length-set}
+use lib.ListN.{getD}
 use native.Mathlib.Omega.{arith}
 use borrow.Author.Needs.{needs}
 use Rattle.model.specs.Limits.{mostDoses}
-use Rattle.steps.proofs.Loops.{stored}
 use Rattle.class_rounds.proofs.Laws.{marks-both}
+use Rattle.order_arrays.proofs.Laws.{DoneTo, done-none, done-next, done-all}
 use Rattle.class_rounds.proofs.dead_part.Statement.{statement}
 use Rattle.class_rounds.proofs.dead_part.Tie as tie
 
 abbrev Inv-loop : tie.InvT-loop
-Inv-loop dead set part₀ k₀ part k = (k ≤ mostDoses) × (length part ≡ mostDoses) × ((m : ℕ) → m < k → getD part m false ≡ (getD dead m false && getD set m false))
+Inv-loop dead set part₀ k₀ part k = DoneTo false mostDoses (λ m. getD dead m false && getD set m false) k part
 
 abbrev μ-loop : tie.MeasureT-loop
 μ-loop dead set part₀ k₀ part k = mostDoses - k
 
 loop-holds : tie.Need-loop-holds Inv-loop μ-loop
-loop-holds c = (omega arith, search needs, λ k h. absurd (omega arith))
+loop-holds c = done-none refl
 
 array-read-both : tie.Need-array-read-both Inv-loop μ-loop
 array-read-both c = search needs
@@ -39,15 +39,13 @@ loop-less : tie.Need-loop-less Inv-loop μ-loop
 loop-less c = search needs
 
 loop-again : tie.Need-loop-again Inv-loop μ-loop
-loop-again c =
-    let A = c .before .before .before .args in
-    let L = c .before .before .loop in
-    (omega arith, simp length-set (L .inv .1), stored false (λ k. getD (A .t1) k false && getD (A .t2) k false) (L .part) (L .k) _ (omega arith) (L .inv .2) (c .both .ensures))
+loop-again c = done-next (c .before .before .loop .inv) (omega arith) (c .both .ensures)
 
 returns : tie.Need-returns Inv-loop μ-loop
 returns c =
+    let A = c .before .before .args in
     let L = c .before .loop in
-    marks-both mostDoses (c .before .before .args .t1) (c .before .before .args .t2) (L .part) (search needs) (L .inv .1) (λ k h. L .inv .2 k (omega arith))
+    marks-both mostDoses (A .t1) (A .t2) (L .part) (search needs) (L .inv .size) (done-all (L .inv) (omega arith))
 
 pub dead-part-spec : {M : Type 1} → statement M
 dead-part-spec =

@@ -1,23 +1,23 @@
 -- `holds_of` meets its contract: every interval passed has its reserved time.
-use Prim.Native.Nat.{ℕ, _<_, _≤_, _-_, _*_}
-use mathlib.Core.Path.{_≡_, refl}
-use lib.ListN.{length, getD, length-set}
+use Prim.Native.Nat.{_≤_, _-_, _*_}
+use mathlib.Core.Path.{refl}
+use lib.ListN.{getD}
 use native.Mathlib.Omega.{arith}
 use borrow.Author.Needs.{needs}
-use Rattle.model.specs.Limits.{mostClassGrams, mostIntervals, week}
-use Rattle.steps.proofs.Loops.{stored}
 use native.Mathlib.Nat.{mul-le-mul}
+use Rattle.model.specs.Limits.{mostClassGrams, mostIntervals, week}
+use Rattle.order_arrays.proofs.Laws.{DoneTo, done-none, done-next, done-all}
 use Rattle.class_rounds.proofs.holds_of.Statement.{statement}
 use Rattle.class_rounds.proofs.holds_of.Tie as tie
 
 abbrev Inv-loop : tie.InvT-loop
-Inv-loop lens w reserved holds₀ j₀ holds j = (j ≤ mostIntervals) × (length holds ≡ mostIntervals) × ((m : ℕ) → m < j → getD holds m 0 ≡ getD reserved m 0 * (getD lens m 0 * w))
+Inv-loop lens w reserved holds₀ j₀ holds j = DoneTo 0 mostIntervals (λ m. getD reserved m 0 * (getD lens m 0 * w)) j holds
 
 abbrev μ-loop : tie.MeasureT-loop
 μ-loop lens w reserved holds₀ j₀ holds j = mostIntervals - j
 
 loop-holds : tie.Need-loop-holds Inv-loop μ-loop
-loop-holds c = (omega arith, search needs, λ k h. absurd (omega arith))
+loop-holds c = done-none refl
 
 mul-holds : tie.Need-mul-holds Inv-loop μ-loop
 mul-holds c = search needs
@@ -58,13 +58,10 @@ loop-less : tie.Need-loop-less Inv-loop μ-loop
 loop-less c = search needs
 
 loop-again : tie.Need-loop-again Inv-loop μ-loop
-loop-again c =
-    let A = c .before .before .before .args in
-    let L = c .before .before .loop in
-    (omega arith, simp length-set (L .inv .1), stored 0 (λ j. getD (A .t2) j 0 * (getD (A .lens .now) j 0 * A .w)) (L .holds) (L .j) _ (omega arith) (L .inv .2) refl)
+loop-again c = done-next (c .before .before .loop .inv) (omega arith) refl
 
 returns : tie.Need-returns Inv-loop μ-loop
-returns c = λ k h. c .before .loop .inv .2 k (omega arith)
+returns c = done-all (c .before .loop .inv) (omega arith)
 
 pub holds-of-spec : {M : Type 1} → statement M
 holds-of-spec =

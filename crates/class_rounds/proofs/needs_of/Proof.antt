@@ -1,25 +1,25 @@
 -- `needs_of` meets its contract: every dose passed has its need.
-use Prim.Native.Nat.{ℕ, _<_, _≤_, _-_, _*_}
-use mathlib.Core.Path.{_≡_, ap, _∙_}
+use Prim.Native.Nat.{ℕ, _≤_, _-_, _*_}
+use mathlib.Core.Path.{refl, ap, _∙_}
 use mathlib.Core.Bool.{false}
-use lib.ListN.{length, getD, length-set}
+use lib.ListN.{getD}
 use native.Mathlib.Omega.{arith}
 use borrow.Author.Needs.{needs}
 use Rattle.model.specs.Limits.{mostDoses}
 use Rattle.model.specs.Sets.{on}
-use Rattle.steps.proofs.Loops.{stored}
 use native.Mathlib.Nat.{mul-le-mul}
+use Rattle.order_arrays.proofs.Laws.{DoneTo, done-none, done-next, done-all}
 use Rattle.class_rounds.proofs.needs_of.Statement.{statement}
 use Rattle.class_rounds.proofs.needs_of.Tie as tie
 
 abbrev Inv-loop : tie.InvT-loop
-Inv-loop grams p set ns₀ k₀ ns k = (k ≤ mostDoses) × (length ns ≡ mostDoses) × ((m : ℕ) → m < k → getD ns m 0 ≡ on (getD set m false) (getD grams m 0 * p))
+Inv-loop grams p set ns₀ k₀ ns k = DoneTo 0 mostDoses (λ m. on (getD set m false) (getD grams m 0 * p)) k ns
 
 abbrev μ-loop : tie.MeasureT-loop
 μ-loop grams p set ns₀ k₀ ns k = mostDoses - k
 
 loop-holds : tie.Need-loop-holds Inv-loop μ-loop
-loop-holds c = (omega arith, search needs, λ k h. absurd (omega arith))
+loop-holds c = done-none refl
 
 array-read-on : tie.Need-array-read-on Inv-loop μ-loop
 array-read-on c = search needs
@@ -58,12 +58,12 @@ loop-less c = search needs
 loop-again : tie.Need-loop-again Inv-loop μ-loop
 loop-again c =
     let A = c .before .before .before .before .before .args in
-    let L = c .before .before .before .before .loop in
-    let need = c .on .ensures .0 ∙ ap (λ (w : ℕ). on (getD (A .t2) (L .k) false) (w * A .p)) (c .before .wide .ensures .0) in
-    (omega arith, simp length-set (L .inv .1), stored 0 (λ k. on (getD (A .t2) k false) (getD (A .grams .now) k 0 * A .p)) (L .needs) (L .k) _ (omega arith) (L .inv .2) need)
+    let k = c .before .before .before .before .loop .k in
+    let read = ap (λ (w : ℕ). on (getD (A .t2) k false) (w * A .p)) (c .before .wide .ensures .0) in
+    done-next (c .before .before .before .before .loop .inv) (omega arith) (c .on .ensures .0 ∙ read)
 
 returns : tie.Need-returns Inv-loop μ-loop
-returns c = λ k h. c .before .loop .inv .2 k (omega arith)
+returns c = done-all (c .before .loop .inv) (omega arith)
 
 pub needs-of-spec : {M : Type 1} → statement M
 needs-of-spec =

@@ -20,7 +20,10 @@ abbrev μ-loop : tie.MeasureT-loop
 μ-loop x₀ release deadline instants active lens grams doses intervals free sequence set₀ x set = weight doses (λ k. getD grams k 0) (setOf set)
 
 loop-holds : tie.Need-loop-holds Inv-loop μ-loop
-loop-holds c = (c .before .pre .0, first-candidate _ _ (c .before .args .active .now) (c .before .args .lens .now) (c .before .args .grams .now) (c .before .args .free) _ (c .before .pre .2), λ k u. u)
+loop-holds c =
+    let start = c .before in
+    let A = start .args in
+    (start .pre .0, first-candidate _ _ (A .active .now) (A .lens .now) (A .grams .now) (A .free) _ (start .pre .2), λ k u. u)
 
 try-candidate-requires : tie.Need-try-candidate-requires Inv-loop μ-loop
 try-candidate-requires c κs = (c .before .loop .inv .0, c .before .before .before .pre .1)
@@ -28,30 +31,35 @@ try-candidate-requires c κs = (c .before .loop .inv .0, c .before .before .befo
 same-length : tie.Need-same-length Inv-loop μ-loop
 same-length c = search needs
 
+-- the needs are met: the candidate is the class
 returns : tie.Need-returns Inv-loop μ-loop
 returns c =
-    let t = c .before .before .before .before .before .try-candidate .ensures in
+    let start = c .before .before .before .before .before .before .before .before .before in
     let L = c .before .before .before .before .before .before .before .loop in
+    let round = c .before .before .before .before .before .try-candidate .ensures in
+    let met = c .before .if1 .taken in
     record {
-      measured = t .0;
-      small = t .1;
+      measured = round .0;
+      small = round .1;
       chosen = record {
-        next = t .2 .class (c .before .if1 .taken) _ (L .inv .1);
-        valid = t .2 .valid (c .before .if1 .taken);
-        past = none-past _ _ _ (L .inv .2) (c .before .before .before .before .before .before .before .before .before .pre .3);
-        none = t .2 .none;
+        next = round .2 .class met _ (L .inv .1);
+        valid = round .2 .valid met;
+        past = none-past _ _ _ (L .inv .2) (start .pre .3);
+        none = round .2 .none;
       };
     }
 
+-- a dose is short: the part that is left is a candidate, and lighter
 loop-less : tie.Need-loop-less Inv-loop μ-loop
-loop-less c = c .before .before .before .before .try-candidate .ensures .2 .lighter (c .if1 .left) _ (c .before .before .before .before .before .before .loop .inv .1)
+loop-less c =
+    let L = c .before .before .before .before .before .before .loop in
+    c .before .before .before .before .try-candidate .ensures .2 .lighter (c .if1 .left) _ (L .inv .1)
 
 loop-again : tie.Need-loop-again Inv-loop μ-loop
-loop-again c = (
-  search needs,
-  c .before .before .before .before .try-candidate .ensures .2 .onward (c .if1 .left) _ (c .before .before .before .before .before .before .loop .inv .1),
-  λ k u. c .before .before .before .before .before .before .loop .inv .2 k (c .before .before .before .before .try-candidate .ensures .2 .fewer k u),
-)
+loop-again c =
+    let L = c .before .before .before .before .before .before .loop in
+    let tried = c .before .before .before .before .try-candidate .ensures .2 in
+    (search needs, tried .onward (c .if1 .left) _ (L .inv .1), λ k u. L .inv .2 k (tried .fewer k u))
 
 pub next-class-spec : {M : Type 1} → statement M
 next-class-spec =

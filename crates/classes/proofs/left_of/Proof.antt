@@ -1,23 +1,23 @@
 -- `left_of` meets its contract: every dose passed remains where it is no member.
-use Prim.Native.Nat.{ℕ, _<_, _≤_, _-_}
-use mathlib.Core.Path.{_≡_}
+use Prim.Native.Nat.{_-_}
+use mathlib.Core.Path.{refl}
 use mathlib.Core.Bool.{false, not, _&&_}
-use lib.ListN.{length, getD, length-set}
+use lib.ListN.{getD}
 use native.Mathlib.Omega.{arith}
 use borrow.Author.Needs.{needs}
 use Rattle.model.specs.Limits.{mostDoses}
-use Rattle.steps.proofs.Loops.{stored}
+use Rattle.order_arrays.proofs.Laws.{DoneTo, done-none, done-next, done-all}
 use Rattle.classes.proofs.left_of.Statement.{statement}
 use Rattle.classes.proofs.left_of.Tie as tie
 
 abbrev Inv-loop : tie.InvT-loop
-Inv-loop remaining members left₀ k₀ left k = (k ≤ mostDoses) × (length left ≡ mostDoses) × ((m : ℕ) → m < k → getD left m false ≡ (getD remaining m false && not (getD members m false)))
+Inv-loop remaining members left₀ k₀ left k = DoneTo false mostDoses (λ m. getD remaining m false && not (getD members m false)) k left
 
 abbrev μ-loop : tie.MeasureT-loop
 μ-loop remaining members left₀ k₀ left k = mostDoses - k
 
 loop-holds : tie.Need-loop-holds Inv-loop μ-loop
-loop-holds c = (omega arith, search needs, λ k h. absurd (omega arith))
+loop-holds c = done-none refl
 
 array-read-without : tie.Need-array-read-without Inv-loop μ-loop
 array-read-without c = search needs
@@ -38,13 +38,10 @@ loop-less : tie.Need-loop-less Inv-loop μ-loop
 loop-less c = search needs
 
 loop-again : tie.Need-loop-again Inv-loop μ-loop
-loop-again c =
-    let A = c .before .before .before .args in
-    let L = c .before .before .loop in
-    (omega arith, simp length-set (L .inv .1), stored false (λ k. getD (A .t1) k false && not (getD (A .t2) k false)) (L .left) (L .k) _ (omega arith) (L .inv .2) (c .without .ensures))
+loop-again c = done-next (c .before .before .loop .inv) (omega arith) (c .without .ensures)
 
 returns : tie.Need-returns Inv-loop μ-loop
-returns c = λ k h. c .before .loop .inv .2 k (omega arith)
+returns c = done-all (c .before .loop .inv) (omega arith)
 
 pub left-of-spec : {M : Type 1} → statement M
 left-of-spec =

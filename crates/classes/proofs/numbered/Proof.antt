@@ -1,24 +1,24 @@
 -- `numbered` meets its contract: every dose passed has its number.
-use Prim.Native.Nat.{ℕ, _<_, _≤_, _-_}
-use mathlib.Core.Path.{_≡_}
+use Prim.Native.Nat.{_-_}
+use mathlib.Core.Path.{refl}
 use mathlib.Core.Bool.{false}
-use lib.ListN.{length, getD, length-set}
+use lib.ListN.{getD}
 use native.Mathlib.Omega.{arith}
 use borrow.Author.Needs.{needs}
 use Rattle.model.specs.Limits.{mostDoses}
 use Rattle.classes.specs.Phase.{choose}
-use Rattle.steps.proofs.Loops.{stored}
+use Rattle.order_arrays.proofs.Laws.{DoneTo, done-none, done-next, done-all}
 use Rattle.classes.proofs.numbered.Statement.{statement}
 use Rattle.classes.proofs.numbered.Tie as tie
 
 abbrev Inv-loop : tie.InvT-loop
-Inv-loop class before members numbers₀ k₀ numbers k = (k ≤ mostDoses) × (length numbers ≡ mostDoses) × ((m : ℕ) → m < k → getD numbers m 0 ≡ choose (getD members m false) class (getD before m 0))
+Inv-loop class before members numbers₀ k₀ numbers k = DoneTo 0 mostDoses (λ m. choose (getD members m false) class (getD before m 0)) k numbers
 
 abbrev μ-loop : tie.MeasureT-loop
 μ-loop class before members numbers₀ k₀ numbers k = mostDoses - k
 
 loop-holds : tie.Need-loop-holds Inv-loop μ-loop
-loop-holds c = (omega arith, search needs, λ k h. absurd (omega arith))
+loop-holds c = done-none refl
 
 array-read-choose-number : tie.Need-array-read-choose-number Inv-loop μ-loop
 array-read-choose-number c = search needs
@@ -45,13 +45,10 @@ loop-less : tie.Need-loop-less Inv-loop μ-loop
 loop-less c = search needs
 
 loop-again : tie.Need-loop-again Inv-loop μ-loop
-loop-again c =
-    let A = c .before .before .before .args in
-    let L = c .before .before .loop in
-    (omega arith, simp length-set (L .inv .1), stored 0 (λ k. choose (getD (A .t2) k false) (A .class) (getD (A .t1) k 0)) (L .numbers) (L .k) _ (omega arith) (L .inv .2) (c .choose-number .ensures))
+loop-again c = done-next (c .before .before .loop .inv) (omega arith) (c .choose-number .ensures)
 
 returns : tie.Need-returns Inv-loop μ-loop
-returns c = λ k h. c .before .loop .inv .2 k (omega arith)
+returns c = done-all (c .before .loop .inv) (omega arith)
 
 pub numbered-spec : {M : Type 1} → statement M
 numbered-spec =

@@ -1,22 +1,22 @@
 -- `free_after` meets its contract: every interval passed has what is left.
-use mathlib.Core.Path.{_≡_, refl}
-use Prim.Native.Nat.{ℕ, _-_, _<_, _≤_}
-use lib.ListN.{getD, length}
-use Rattle.model.specs.Limits.{mostIntervals}
-use Rattle.steps.proofs.Loops.{stored}
+use mathlib.Core.Path.{refl}
+use Prim.Native.Nat.{_-_}
+use lib.ListN.{getD}
 use borrow.Author.Needs.{needs}
 use native.Mathlib.Omega.{arith}
+use Rattle.model.specs.Limits.{mostIntervals}
+use Rattle.order_arrays.proofs.Laws.{DoneTo, done-none, done-next, done-all}
 use Rattle.judge_rates.proofs.free_after.Statement.{statement}
 use Rattle.judge_rates.proofs.free_after.Tie as tie
 
 abbrev Inv-loop : tie.InvT-loop
-Inv-loop free row left₀ j₀ left j = (length left ≡ mostIntervals) × (j ≤ mostIntervals) × ((k : ℕ) → k < j → getD left k 0 ≡ getD free k 0 - getD row k 0)
+Inv-loop free row left₀ j₀ left j = DoneTo 0 mostIntervals (λ m. getD free m 0 - getD row m 0) j left
 
 abbrev μ-loop : tie.MeasureT-loop
 μ-loop free row left₀ j₀ left j = mostIntervals - j
 
 loop-holds : tie.Need-loop-holds Inv-loop μ-loop
-loop-holds c = (refl, omega arith, λ k l. absurd (omega arith))
+loop-holds c = done-none refl
 
 mul-less : tie.Need-mul-less Inv-loop μ-loop
 mul-less c = search needs
@@ -46,15 +46,10 @@ loop-less : tie.Need-loop-less Inv-loop μ-loop
 loop-less c = search needs
 
 loop-again : tie.Need-loop-again Inv-loop μ-loop
-loop-again c =
-    let A = c .before .before .before .args in
-    let L = c .before .before .loop in
-    (search needs, omega arith, stored 0 (λ k. getD (A .t1) k 0 - getD (A .t2) k 0) (L .left) (L .j) _ (omega arith) (L .inv .2) (c .less .ensures))
+loop-again c = done-next (c .before .before .loop .inv) (omega arith) (c .less .ensures)
 
 returns : tie.Need-returns Inv-loop μ-loop
-returns c =
-    let L = c .before .loop in
-    λ k l. L .inv .2 k (omega arith)
+returns c = done-all (c .before .loop .inv) (omega arith)
 
 pub free-after-spec : {M : Type 1} → statement M
 free-after-spec =

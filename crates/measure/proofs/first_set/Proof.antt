@@ -1,4 +1,5 @@
 -- `first_set` meets its contract: the sum so far is the number of the set so far, and is below the next bit.
+use mathlib.Core.List.{List}
 use mathlib.Core.Path.{_≡_, refl}
 use Prim.Native.Nat.{ℕ, _-_, _<_, _≤_, _^_}
 use Rattle.model.specs.Sets.{weight}
@@ -10,14 +11,20 @@ use native.Mathlib.Omega.{arith}
 use Rattle.measure.proofs.first_set.Statement.{statement}
 use Rattle.measure.proofs.first_set.Tie as tie
 
+-- of the first k doses: the set's number, and the next bit above it
+pub record NumberTo (numbers : List ℕ) (k sum bit : ℕ) : Type 0 where
+  pub number : sum ≡ weight k (λ i. 2 ^ i) (setsOf numbers 0)
+  pub next : bit ≡ 2 ^ k
+  pub below : sum < bit
+
 abbrev Inv-loop : tie.InvT-loop
-Inv-loop doses numbers sum₀ bit₀ k₀ sum bit k = (k ≤ doses) × (sum ≡ weight k (λ i. 2 ^ i) (setsOf numbers 0)) × (bit ≡ 2 ^ k) × (sum < bit)
+Inv-loop doses numbers sum₀ bit₀ k₀ sum bit k = (k ≤ doses) × NumberTo numbers k sum bit
 
 abbrev μ-loop : tie.MeasureT-loop
 μ-loop doses numbers sum₀ bit₀ k₀ sum bit k = doses - k
 
 loop-holds : tie.Need-loop-holds Inv-loop μ-loop
-loop-holds c = (omega arith, weight-none _ _, refl, omega arith)
+loop-holds c = (omega arith, record { number = weight-none _ _; next = refl; below = omega arith })
 
 mul-on : tie.Need-mul-on Inv-loop μ-loop
 mul-on c = search needs
@@ -31,12 +38,12 @@ on-requires c κs = search needs
 add-sum : tie.Need-add-sum Inv-loop μ-loop
 add-sum c =
     let L = c .before .before .loop in
-    omega (arith, c .on .ensures .1, L .inv .2, bit-most (L .k) (omega arith))
+    omega (arith, c .on .ensures .1, L .inv .1 .next, L .inv .1 .below, bit-most (L .k) (omega arith))
 
 mul-bit : tie.Need-mul-bit Inv-loop μ-loop
 mul-bit c =
     let L = c .before .before .loop in
-    omega (arith, L .inv .2, bit-most (L .k) (omega arith))
+    omega (arith, L .inv .1 .next, bit-most (L .k) (omega arith))
 
 add-k : tie.Need-add-k Inv-loop μ-loop
 add-k c = search needs
@@ -46,12 +53,17 @@ loop-less c = search needs
 
 loop-again : tie.Need-loop-again Inv-loop μ-loop
 loop-again c =
+    let numbers = c .before .before .before .args .t1 in
     let L = c .before .before .loop in
-    let w = bits-next (L .k) (L .sum) (L .bit) (c .on .result) (setsOf (c .before .before .before .args .t1) 0) (L .inv .1) (L .inv .2) (L .inv .3) (c .on .ensures .0) in
-    (omega arith, w .0, w .1, w .2)
+    let so = L .inv .1 in
+    let w = bits-next (L .k) (L .sum) (L .bit) (c .on .result) (setsOf numbers 0) (so .number) (so .next) (so .below) (c .on .ensures .0) in
+    (omega arith, record { number = w .0; next = w .1; below = w .2 })
 
 returns : tie.Need-returns Inv-loop μ-loop
-returns c = at-end (λ (k : ℕ). c .before .loop .sum ≡ weight k (λ i. 2 ^ i) (setsOf (c .before .before .args .t1) 0)) (omega arith) (c .before .loop .inv .1)
+returns c =
+    let numbers = c .before .before .args .t1 in
+    let L = c .before .loop in
+    at-end (λ (k : ℕ). L .sum ≡ weight k (λ i. 2 ^ i) (setsOf numbers 0)) (omega arith) (L .inv .1 .number)
 
 pub first-set-spec : {M : Type 1} → statement M
 first-set-spec =

@@ -1,25 +1,24 @@
 -- `set_of` meets its contract: every dose passed is marked where its number is that of the class.
-use Prim.Native.Nat.{ℕ, _+_, _-_, _<_, _≤_}
-use mathlib.Core.Path.{_≡_, ap}
+use Prim.Native.Nat.{ℕ, _+_, _-_}
+use mathlib.Core.Path.{refl, ap}
 use mathlib.Core.Bool.{false}
 use lib.Dec.{eqb}
-use lib.ListN.{length, getD, length-set}
 use native.Mathlib.Omega.{arith}
 use borrow.Author.Needs.{needs}
 use Rattle.model.specs.Limits.{mostDoses}
 use Rattle.order_arrays.specs.Arrays.{setsOf}
-use Rattle.steps.proofs.Loops.{stored}
+use Rattle.order_arrays.proofs.Laws.{DoneTo, done-none, done-next, done-all}
 use Rattle.measure.proofs.set_of.Statement.{statement}
 use Rattle.measure.proofs.set_of.Tie as tie
 
 abbrev Inv-loop : tie.InvT-loop
-Inv-loop numbers i set₀ k₀ set k = (k ≤ mostDoses) × (length set ≡ mostDoses) × ((m : ℕ) → m < k → getD set m false ≡ setsOf numbers i m)
+Inv-loop numbers i set₀ k₀ set k = DoneTo false mostDoses (setsOf numbers i) k set
 
 abbrev μ-loop : tie.MeasureT-loop
 μ-loop numbers i set₀ k₀ set k = mostDoses - k
 
 loop-holds : tie.Need-loop-holds Inv-loop μ-loop
-loop-holds c = (omega arith, search needs, λ m h. absurd (omega arith))
+loop-holds c = done-none refl
 
 mul-index : tie.Need-mul-index Inv-loop μ-loop
 mul-index c = search needs
@@ -44,14 +43,10 @@ loop-less c = search needs
 
 -- the number read is the dose's
 loop-again : tie.Need-loop-again Inv-loop μ-loop
-loop-again c =
-    let A = c .before .before .before .before .args in
-    let L = c .before .before .before .loop in
-    let test = ap (λ (n : ℕ). eqb n (A .i + 1)) (c .index .ensures .0) in
-    (omega arith, simp length-set (L .inv .1), stored false (setsOf (A .numbers .now) (A .i)) (L .set) (L .k) _ (omega arith) (L .inv .2) test)
+loop-again c = done-next (c .before .before .before .loop .inv) (omega arith) (ap (λ (n : ℕ). eqb n (c .before .before .before .before .args .i + 1)) (c .index .ensures .0))
 
 returns : tie.Need-returns Inv-loop μ-loop
-returns c = let L = c .before .loop in λ k h. L .inv .2 k (omega arith)
+returns c = done-all (c .before .loop .inv) (omega arith)
 
 pub set-of-spec : {M : Type 1} → statement M
 set-of-spec =

@@ -1,22 +1,22 @@
 -- `counts_of` meets its contract: every interval passed has its count.
-use Prim.Native.Nat.{ℕ, _<_, _≤_, _-_}
-use mathlib.Core.Path.{_≡_, refl}
-use lib.ListN.{length, getD, length-set}
+use Prim.Native.Nat.{_-_}
+use mathlib.Core.Path.{refl}
+use lib.ListN.{getD}
 use native.Mathlib.Omega.{arith}
 use borrow.Author.Needs.{needs}
 use Rattle.model.specs.Limits.{mostIntervals}
-use Rattle.steps.proofs.Loops.{stored}
+use Rattle.order_arrays.proofs.Laws.{DoneTo, done-none, done-next, done-all}
 use Rattle.classes.proofs.table.counts_of.Statement.{statement}
 use Rattle.classes.proofs.table.counts_of.Tie as tie
 
 abbrev Inv-loop : tie.InvT-loop
-Inv-loop reserved counts₀ j₀ counts j = (j ≤ mostIntervals) × (length counts ≡ mostIntervals) × ((m : ℕ) → m < j → getD counts m 0 ≡ getD reserved m 0)
+Inv-loop reserved counts₀ j₀ counts j = DoneTo 0 mostIntervals (λ m. getD reserved m 0) j counts
 
 abbrev μ-loop : tie.MeasureT-loop
 μ-loop reserved counts₀ j₀ counts j = mostIntervals - j
 
 loop-holds : tie.Need-loop-holds Inv-loop μ-loop
-loop-holds c = (omega arith, search needs, λ k h. absurd (omega arith))
+loop-holds c = done-none refl
 
 mul-counts : tie.Need-mul-counts Inv-loop μ-loop
 mul-counts c = search needs
@@ -37,13 +37,10 @@ loop-less : tie.Need-loop-less Inv-loop μ-loop
 loop-less c = search needs
 
 loop-again : tie.Need-loop-again Inv-loop μ-loop
-loop-again c =
-    let A = c .before .before .args in
-    let L = c .before .loop in
-    (omega arith, simp length-set (L .inv .1), stored 0 (λ j. getD (A .t1) j 0) (L .counts) (L .j) _ (omega arith) (L .inv .2) refl)
+loop-again c = done-next (c .before .loop .inv) (omega arith) refl
 
 returns : tie.Need-returns Inv-loop μ-loop
-returns c = λ k h. c .before .loop .inv .2 k (omega arith)
+returns c = done-all (c .before .loop .inv) (omega arith)
 
 pub counts-of-spec : {M : Type 1} → statement M
 counts-of-spec =

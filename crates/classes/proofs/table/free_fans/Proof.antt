@@ -1,24 +1,23 @@
 -- `free_fans` meets its contract: every interval passed has its free fans.
-use Prim.Native.Nat.{ℕ, _<_, _≤_, _-_}
-use mathlib.Core.Path.{_≡_, ap, _∙_}
-use lib.ListN.{length, getD, length-set}
+use Prim.Native.Nat.{ℕ, _-_}
+use mathlib.Core.Path.{refl, ap, _∙_}
 use native.Mathlib.Omega.{arith}
 use borrow.Author.Needs.{needs}
 use Rattle.model.specs.Limits.{mostIntervals}
 use Rattle.model.specs.Sets.{sum}
-use Rattle.steps.proofs.Loops.{stored}
 use Rattle.classes.specs.Phase.{rowAt}
+use Rattle.order_arrays.proofs.Laws.{DoneTo, done-none, done-next, done-all}
 use Rattle.classes.proofs.table.free_fans.Statement.{statement}
 use Rattle.classes.proofs.table.free_fans.Tie as tie
 
 abbrev Inv-loop : tie.InvT-loop
-Inv-loop table fans classes free₀ j₀ free j = (j ≤ mostIntervals) × (length free ≡ mostIntervals) × ((m : ℕ) → m < j → getD free m 0 ≡ fans - sum classes (λ i. rowAt table i m))
+Inv-loop table fans classes free₀ j₀ free j = DoneTo 0 mostIntervals (λ m. fans - sum classes (λ i. rowAt table i m)) j free
 
 abbrev μ-loop : tie.MeasureT-loop
 μ-loop table fans classes free₀ j₀ free j = mostIntervals - j
 
 loop-holds : tie.Need-loop-holds Inv-loop μ-loop
-loop-holds c = (omega arith, search needs, λ k h. absurd (omega arith))
+loop-holds c = done-none refl
 
 reserved-before-requires : tie.Need-reserved-before-requires Inv-loop μ-loop
 reserved-before-requires c κs = search needs
@@ -39,13 +38,10 @@ loop-less : tie.Need-loop-less Inv-loop μ-loop
 loop-less c = search needs
 
 loop-again : tie.Need-loop-again Inv-loop μ-loop
-loop-again c =
-    let A = c .before .before .before .before .args in
-    let L = c .before .before .before .loop in
-    (omega arith, simp length-set (L .inv .1), stored 0 (λ j. A .fans - sum (A .classes) (λ i. rowAt (A .table .now) i j)) (L .free) (L .j) _ (omega arith) (L .inv .2) (c .less .ensures ∙ ap (λ (n : ℕ). A .fans - n) (c .before .reserved-before .ensures)))
+loop-again c = done-next (c .before .before .before .loop .inv) (omega arith) (c .less .ensures ∙ ap (λ (n : ℕ). c .before .before .before .before .args .fans - n) (c .before .reserved-before .ensures))
 
 returns : tie.Need-returns Inv-loop μ-loop
-returns c = λ k h. c .before .loop .inv .2 k (omega arith)
+returns c = done-all (c .before .loop .inv) (omega arith)
 
 pub free-fans-spec : {M : Type 1} → statement M
 free-fans-spec =
