@@ -55,11 +55,6 @@ pub stored : {A : Type 0} (d : A) (f : ℕ → A) (l : List A) (i : ℕ) (v : A)
 stored d f l i v h all e k q =
     alike k i (λ p. rw p (getD-set-same l i v d h ∙ e)) (λ p. getD-set-other l i k v d p ∙ all k (omega arith))
 
--- of at most b
-pub stored-most : (b : ℕ) (l : List ℕ) (i v : ℕ) → i < length l → ((k : ℕ) → k < i → getD l k 0 ≤ b) → v ≤ b → (k : ℕ) → k < i + 1 → getD (set l i v) k 0 ≤ b
-stored-most b l i v q all h k m =
-    alike k i (λ p. rw p (omega (arith, getD-set-same l i v 0 q))) (λ p. omega (arith, getD-set-other l i k v 0 p, all k (omega arith)))
-
 -- the places that it has not reached are as they were
 pub unreached : {A : Type 0} (d : A) (f : ℕ → A) (l : List A) (i : ℕ) (v : A) → ((k : ℕ) → i ≤ k → getD l k d ≡ f k)
     → (k : ℕ) → i + 1 ≤ k → getD (set l i v) k d ≡ f k
