@@ -138,7 +138,7 @@ fn try_candidate(
     let holds = holds_of(lens, reserved, w);
     let needs = needs_of(grams, set, p);
     let dead = class_shares::find_shares(x, &rooms, &holds, &needs, sequence);
-    let met = class_shares::all_met(x, &needs);
+    let met = class_shares::needs_met(x, &needs);
     let part = dead_part(dead, set);
     Round {
         met,

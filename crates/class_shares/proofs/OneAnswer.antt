@@ -1,4 +1,4 @@
--- Two answers of `all_met` are equal. Which shares `find_shares` raises is left open (docs/PROMISES.md, "The one exception"). Assumes nothing.
+-- Two answers of `needs_met` are equal. Which shares `find_shares` raises is left open (docs/PROMISES.md, "The one exception"). Assumes nothing.
 use mathlib.Core.Bool.{Bool, true, false}
 use mathlib.Core.List.{List}
 use mathlib.Core.Path.{_≡_, refl, sym, _∙_}

@@ -183,7 +183,7 @@ pub fn find_shares(
 }
 
 // Whether every dose has what it needs.
-pub fn all_met(shares: &[u64], needs: &[u64]) -> bool
+pub fn needs_met(shares: &[u64], needs: &[u64]) -> bool
     requires { ⌜ (length (now shares) ≡ cells) × (length (now needs) ≡ mostDoses) × ((k : ℕ) → k < mostDoses → got (now shares) k ≤ getD (now needs) k 0) ⌝ }
     ensures { λ r. ⌜ Met (now (needs .entry)) (now (shares .entry)) r ⌝ }
 {

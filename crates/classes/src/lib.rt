@@ -81,7 +81,11 @@ fn left_of(remaining: [bool; MOST_DOSES], members: [bool; MOST_DOSES]) -> [bool;
     left
 }
 
-fn numbered(before: [u32; MOST_DOSES], members: [bool; MOST_DOSES], class: u32) -> [u32; MOST_DOSES]
+fn number_members(
+    before: [u32; MOST_DOSES],
+    members: [bool; MOST_DOSES],
+    class: u32,
+) -> [u32; MOST_DOSES]
     ensures { λ r. ⌜ ((k : ℕ) → k < mostDoses → getD r k 0 ≡ choose (getD members k false) class (getD before k 0)) ⌝ }
 {
     let mut numbers = [0u32; MOST_DOSES];
@@ -132,7 +136,7 @@ impl Tally {
         let rest = self.remaining;
         let remaining = left_of(rest, members);
         let before = self.numbers;
-        let numbers = numbered(before, members, number as u32 + 1);
+        let numbers = number_members(before, members, number as u32 + 1);
         let mut grams = self.grams;
         grams[number] = class.grams;
         let mut time = self.time;

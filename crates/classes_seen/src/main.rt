@@ -26,7 +26,7 @@ fn number(n: u64) {
     io::print_decimal(STDOUT_FILENO, n);
 }
 
-fn refused(n: u32, place: usize) {
+fn show_refused(n: u32, place: usize) {
     word(b"refused");
     number(n as u64);
     number(place as u64);
@@ -45,7 +45,7 @@ fn class_of(t: Tally, k: usize) -> usize {
 }
 
 // W of class i.
-fn grams_of(t: Tally, i: usize) -> u64 {
+fn class_weight(t: Tally, i: usize) -> u64 {
     if MOST_DOSES <= i {
         return 0;
     }
@@ -53,7 +53,7 @@ fn grams_of(t: Tally, i: usize) -> u64 {
 }
 
 // P of class i.
-fn time_of(t: Tally, i: usize) -> u64 {
+fn class_time(t: Tally, i: usize) -> u64 {
     if MOST_DOSES <= i {
         return 0;
     }
@@ -83,7 +83,7 @@ fn fans_at(table: &[[u8; MOST_INTERVALS]; MOST_DOSES], i: usize, j: usize) -> u6
 }
 
 // The product of factors below 2^32, as all are here; of others a number that no shares come to.
-fn product(a: u64, b: u64) -> u64 {
+fn bounded_product(a: u64, b: u64) -> u64 {
     if 4294967295 < a {
         return 18446744073709551615;
     }
@@ -94,7 +94,7 @@ fn product(a: u64, b: u64) -> u64 {
 }
 
 // "the first class as a number with bit i for dose i", of any class.
-fn set_of(t: Tally, i: usize, doses: usize) -> u64 {
+fn class_set(t: Tally, i: usize, doses: usize) -> u64 {
     let mut set: u64 = 0;
     let mut bit: u64 = 1;
     let mut k = 0;
@@ -108,9 +108,9 @@ fn set_of(t: Tally, i: usize, doses: usize) -> u64 {
 
 fn show_class(t: Tally, i: usize, doses: usize) {
     word(b"class");
-    number(set_of(t, i, doses));
-    number(grams_of(t, i));
-    number(time_of(t, i));
+    number(class_set(t, i, doses));
+    number(class_weight(t, i));
+    number(class_time(t, i));
     word(b"\n");
 }
 
@@ -137,7 +137,7 @@ fn stands(o: Order, s: Instants, grams: u64, share: u64, k: usize, j: usize) -> 
     if !interval::active(o, s, k, j) {
         return false;
     }
-    share <= product(wide(interval::span(s, j)), grams)
+    share <= bounded_product(wide(interval::span(s, j)), grams)
 }
 
 // "w × P units": what dose k of class i has in all.
@@ -145,7 +145,7 @@ fn units_of(o: Order, t: Tally, k: usize, i: usize) -> u64 {
     if MOST_DOSES <= k {
         return 0;
     }
-    product(wide(o.grams[k]), time_of(t, i))
+    bounded_product(wide(o.grams[k]), class_time(t, i))
 }
 
 // Every dose has a class, and its shares stand and come to its units.
@@ -154,7 +154,7 @@ fn dose_served(o: Order, s: Instants, t: Tally, shares: &[u64; CELLS], k: usize)
     if t.class <= i {
         return false;
     }
-    let grams = grams_of(t, i);
+    let grams = class_weight(t, i);
     let mut sum: u64 = 0;
     let mut j = 0;
     while j < MOST_INTERVALS {
@@ -203,8 +203,8 @@ fn full(
     if t.class <= i {
         return true;
     }
-    let reserved = product(fans_at(table, i, j), wide(interval::span(s, j)));
-    class_share(t, shares, i, j) == product(reserved, grams_of(t, i))
+    let reserved = bounded_product(fans_at(table, i, j), wide(interval::span(s, j)));
+    class_share(t, shares, i, j) == bounded_product(reserved, class_weight(t, i))
 }
 
 // Class i and interval j are taken at i * 47 + j.
@@ -264,7 +264,7 @@ fn show_order(o: Order)
     let t = classes::classes_of(o, &mut shares, &mut table);
     let top = classes::too_fast(o, t);
     if top.above {
-        refused(9, 0);
+        show_refused(9, 0);
         number(top.set);
         number(top.grams);
         number(top.time);
@@ -278,7 +278,7 @@ fn show_order(o: Order)
 fn show(bytes: &[u8]) {
     let r = order::read_order(bytes);
     if r.number != 0 {
-        refused(r.number, r.place);
+        show_refused(r.number, r.place);
         word(b"\n");
         return;
     }

@@ -28,7 +28,7 @@ use Rattle.model.proofs.ValidShares.{class-open}
 use Rattle.model.proofs.DrawnLine.{class-of}
 use Rattle.model.proofs.PlanPieces.{noSlot}
 use Rattle.records.specs.Plan.{classIn, slotIn}
-use Rattle.judge_clauses.specs.Tests.{ClassFits, ClassRow, InTurn, Leads, Numbers, Passes, OrderHeld, HeldFrom, SlotFits, SlotLong, SlotRow, by-fan, by-interval, by-time, placeIn, unitsUpTo}
+use Rattle.judge_clauses.specs.Tests.{ClassFits, ClassRow, InTurn, Leads, ClassNumbers, Passes, OrderHeld, HeldFrom, SlotFits, SlotLong, SlotRow, by-fan, by-interval, by-time, placeIn, unitsUpTo}
 use Rattle.order_arrays.specs.Arrays.{setsOf}
 use Rattle.judge.proofs.Rows.{gather-at, noClass, plan-class, plan-length, plan-slot, read-rows, row-class, row-slot}
 use Rattle.judge_slots.proofs.Places.{place-at, tick-before, tick-from}
@@ -57,7 +57,7 @@ module _ (o : Order) (h : OrderHeld) (sh : HeldFrom o h) (s : Slot) (long : Slot
       (λ i r. omega (arith, instants-up o h sh (i + 1) j (omega arith) (omega (arith, sh .intervals)), sh .instants j (omega (arith, sh .intervals))))
       (omega (arith, sh .instants (j + 1) (omega (arith, sh .intervals))))
 
-module _ (o : Order) (fit : Fit o) (h : OrderHeld) (sh : HeldFrom o h) (b : List ℕ) (p : ℕ) (N : List ℕ) (lead : Leads b p) (num : Numbers b p (length b / 32) N) (st : Stands o b) where
+module _ (o : Order) (fit : Fit o) (h : OrderHeld) (sh : HeldFrom o h) (b : List ℕ) (p : ℕ) (N : List ℕ) (lead : Leads b p) (num : ClassNumbers b p (length b / 32) N) (st : Stands o b) where
   abbrev m : ℕ
   m = length b / 32
 

@@ -15,7 +15,7 @@ use Rattle.steps.proofs.Arrays.{filled-one}
 use Rattle.records.specs.declared.plan_records.Slot.{Slot}
 use Rattle.records.specs.Held.{asSlot}
 use Rattle.records.specs.Plan.{slotIn}
-use Rattle.judge_clauses.specs.Tests.{Numbers, numberOf}
+use Rattle.judge_clauses.specs.Tests.{ClassNumbers, numberOf}
 
 -- ---- the number of one dose
 
@@ -44,15 +44,15 @@ module _ (b : List ℕ) (p k : ℕ) where
 
 -- ---- the numbers of all
 
-pub numbers-none : (b : List ℕ) (p : ℕ) → Numbers b p p (replicate mostDoses 0)
+pub numbers-none : (b : List ℕ) (p : ℕ) → ClassNumbers b p p (replicate mostDoses 0)
 numbers-none b p = record { each = λ k h. getD-replicate mostDoses k 0 0 h ∙ sym (number-none b p k) }
 
-pub numbers-to : {b : List ℕ} {p i e : ℕ} {N : List ℕ} → i ≡ e → Numbers b p i N → Numbers b p e N
-numbers-to {b} {p} {i} {e} {N} q n = subst (λ (x : ℕ). Numbers b p x N) q n
+pub numbers-to : {b : List ℕ} {p i e : ℕ} {N : List ℕ} → i ≡ e → ClassNumbers b p i N → ClassNumbers b p e N
+numbers-to {b} {p} {i} {e} {N} q n = subst (λ (x : ℕ). ClassNumbers b p x N) q n
 
 -- one slot more
-pub numbers-more : (b : List ℕ) (p i : ℕ) (N N′ : List ℕ) (s : Slot) → asSlot s ≡ slotIn b i → Numbers b p i N
-    → (s .dose < mostDoses → getD N′ (s .dose) 0 ≡ s .class) → ((k : ℕ) → k ≢ s .dose → getD N′ k 0 ≡ getD N k 0) → p ≤ i → Numbers b p (i + 1) N′
+pub numbers-more : (b : List ℕ) (p i : ℕ) (N N′ : List ℕ) (s : Slot) → asSlot s ≡ slotIn b i → ClassNumbers b p i N
+    → (s .dose < mostDoses → getD N′ (s .dose) 0 ≡ s .class) → ((k : ℕ) → k ≢ s .dose → getD N′ k 0 ≡ getD N k 0) → p ≤ i → ClassNumbers b p (i + 1) N′
 numbers-more b p i N N′ s e n own others g = record { each = λ k h. each k h ∙ sym (number-next b p k i g) }
   where
     dose : slotIn b i .dose ≡ s .dose
@@ -67,12 +67,12 @@ numbers-more b p i N N′ s e n own others g = record { each = λ k h. each k h 
         (λ other. rw (ne-eqb (slotIn b i .dose) k (λ z. other (sym z ∙ dose))) (others k other ∙ n .each k h))
 
 -- every dose that has a slot has the class number of one of its slots
-pub numbers-named : {b : List ℕ} {p e : ℕ} {N : List ℕ} → Numbers b p e N → (i : ℕ) → i < e → p ≤ i → slotIn b i .dose < mostDoses
+pub numbers-named : {b : List ℕ} {p e : ℕ} {N : List ℕ} → ClassNumbers b p e N → (i : ℕ) → i < e → p ≤ i → slotIn b i .dose < mostDoses
     → (l : ℕ) × (l < e) × (p ≤ l) × (slotIn b l .dose ≡ slotIn b i .dose) × (slotIn b l .class ≡ getD N (slotIn b i .dose) 0)
 numbers-named {b} {p} {e} n i h g d =
     let w = number-named b p (slotIn b i .dose) (e - p) (i - p) (omega arith) (ap (λ (l : ℕ). slotIn b l .dose) (let z : p + (i - p) ≡ i = omega arith in z)) in
     (p + w .0, omega (arith, w .1), omega arith, w .2, w .3 ∙ sym (n .each (slotIn b i .dose) d))
 
--- two answers of `numbers_of` are one array
-pub numbers-one : {b : List ℕ} {p e : ℕ} {N N′ : List ℕ} → length N ≡ mostDoses → length N′ ≡ mostDoses → Numbers b p e N → Numbers b p e N′ → N ≡ N′
+-- two answers of `class_numbers` are one array
+pub numbers-one : {b : List ℕ} {p e : ℕ} {N N′ : List ℕ} → length N ≡ mostDoses → length N′ ≡ mostDoses → ClassNumbers b p e N → ClassNumbers b p e N′ → N ≡ N′
 numbers-one l l′ n m = filled-one 0 mostDoses l l′ (n .each) (m .each)

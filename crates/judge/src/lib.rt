@@ -48,7 +48,7 @@ fn rows_pass(plan: &[u8], p: usize, numbers: &[u32; MOST_DOSES], doses: usize) -
     if !rows::slot_rows(plan, p) {
         return false;
     }
-    if !numbers::numbered(numbers, doses, p) {
+    if !numbers::all_numbered(numbers, doses, p) {
         return false;
     }
     judge_rates::rates_fall(plan, p)
@@ -125,7 +125,7 @@ fn find(
     ensures { λ r. ⌜ Finds (orderHeld doses intervals fans (now (release .entry)) (now (deadline .entry)) (now (grams .entry)) (now (instants .entry))) (now (plan .entry)) (r .classes) (r .numbers) (r .stands) ⌝ }
 {
     let p = rows::lead(plan);
-    let numbers = numbers::numbers_of(plan, p);
+    let numbers = numbers::class_numbers(plan, p);
     let stands = all_pass(
         plan,
         p,

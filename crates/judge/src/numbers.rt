@@ -9,7 +9,7 @@ ghost use Prim.Native.Nat.{ℕ, _/_, _<_, _≤_};
 ghost use lib.ListN.{length, getD};
 ghost use Rattle.model.specs.Limits.{mostDoses};
 ghost use Rattle.model.specs.Records.{recordSize};
-ghost use Rattle.judge_clauses.specs.Tests.{Tells, Numbers};
+ghost use Rattle.judge_clauses.specs.Tests.{Tells, ClassNumbers};
 
 // The number of one dose is noted, where there can be such a dose.
 fn noted(before: [u32; MOST_DOSES], dose: u32, class: u32) -> [u32; MOST_DOSES]
@@ -26,9 +26,9 @@ fn noted(before: [u32; MOST_DOSES], dose: u32, class: u32) -> [u32; MOST_DOSES]
 }
 
 // "each slot names a dose of its class": the slots' own numbers, the last one of each dose.
-pub fn numbers_of(plan: &[u8], p: usize) -> [u32; MOST_DOSES]
+pub fn class_numbers(plan: &[u8], p: usize) -> [u32; MOST_DOSES]
     requires { ⌜ p ≤ length (now plan) / recordSize ⌝ }
-    ensures { λ r. ⌜ Numbers (now (plan .entry)) p (length (now (plan .entry)) / recordSize) r ⌝ }
+    ensures { λ r. ⌜ ClassNumbers (now (plan .entry)) p (length (now (plan .entry)) / recordSize) r ⌝ }
 {
     let m = plan.len() / RECORD_SIZE;
     let mut numbers = [0u32; MOST_DOSES];
@@ -43,7 +43,7 @@ pub fn numbers_of(plan: &[u8], p: usize) -> [u32; MOST_DOSES]
 }
 
 // Every dose has one of the p classes.
-pub fn numbered(numbers: &[u32; MOST_DOSES], doses: usize, p: usize) -> bool
+pub fn all_numbered(numbers: &[u32; MOST_DOSES], doses: usize, p: usize) -> bool
     requires { ⌜ doses ≤ mostDoses ⌝ }
     ensures { λ t. ⌜ Tells t ((k : ℕ) → k < doses → (1 ≤ getD (now (numbers .entry)) k 0) × (getD (now (numbers .entry)) k 0 ≤ p)) ⌝ }
 {

@@ -61,8 +61,8 @@ scan instants t j zero = j
 scan instants t j (suc n) = pick (ltb t (getD instants (j + 1) 0)) j (scan instants t (j + 1) n)
 
 -- the interval of tick t; as many as there are intervals where t is in none
-abbrev pub placeOf : List ℕ → ℕ → ℕ → ℕ
-placeOf instants intervals t = scan instants t 0 intervals
+abbrev pub intervalOf : List ℕ → ℕ → ℕ → ℕ
+intervalOf instants intervals t = scan instants t 0 intervals
 
 -- ---- records
 
@@ -86,7 +86,7 @@ numberOf plan p k zero = 0
 numberOf plan p k (suc n) = pick (eqb (slotIn plan (p + n) .dose) k) (slotIn plan (p + n) .class) (numberOf plan p k n)
 
 -- every dose below 24 has its number, by the slots from record p up to record e
-pub record Numbers (plan : List ℕ) (p e : ℕ) (numbers : List ℕ) : Type 0 where
+pub record ClassNumbers (plan : List ℕ) (p e : ℕ) (numbers : List ℕ) : Type 0 where
   pub each : (k : ℕ) → k < mostDoses → getD numbers k 0 ≡ numberOf plan p k (e - p)
 
 -- ---- clauses
@@ -113,7 +113,7 @@ pub record Falls (c d : Class) : Type 0 where
 
 -- the interval in which a slot starts
 abbrev pub placeIn : List ℕ → ℕ → Slot → ℕ
-placeIn instants intervals s = placeOf instants intervals (s .startTick)
+placeIn instants intervals s = intervalOf instants intervals (s .startTick)
 
 -- "each slot names a dose of its class, that class's W and P, an existing fan": c is its class
 pub record SlotNames (fans number : ℕ) (c : Class) (s : Slot) : Type 0 where
@@ -197,5 +197,5 @@ pub record Passes (h : OrderHeld) (plan : List ℕ) (p : ℕ) (numbers : List �
 -- what the judge finds of plan bytes: p classes, the class numbers of the doses, and whether the bytes pass
 pub record Finds (h : OrderHeld) (plan : List ℕ) (p : ℕ) (numbers : List ℕ) (r : Bool) : Type 0 where
   pub leads : Leads plan p
-  pub named : Numbers plan p (length plan / recordSize) numbers
+  pub named : ClassNumbers plan p (length plan / recordSize) numbers
   pub tells : Tells r (Passes h plan p numbers)

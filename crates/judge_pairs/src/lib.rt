@@ -1,5 +1,5 @@
 // Two slots: "slots by interval, fan, start"; "no two slots of one fan overlap; no two slots of one dose overlap".
-use judge_slots::place_of;
+use judge_slots::interval_of;
 use records::RECORD_SIZE;
 use records::Slot;
 use records::slot_at;
@@ -33,8 +33,8 @@ fn in_turn(s: Slot, u: Slot, instants: &[u32; MOST_INSTANTS], intervals: usize) 
     requires { ⌜ (intervals ≤ mostIntervals) × SlotLong (asSlot s) × SlotLong (asSlot u) ⌝ }
     ensures { λ t. ⌜ Tells t (InTurn (now (instants .entry)) intervals (asSlot s) (asSlot u)) ⌝ }
 {
-    let i = place_of(instants, intervals, s.start_tick);
-    let j = place_of(instants, intervals, u.start_tick);
+    let i = interval_of(instants, intervals, s.start_tick);
+    let j = interval_of(instants, intervals, u.start_tick);
     if i < j {
         return true;
     }
@@ -95,7 +95,7 @@ fn clear_after(
 {
     let m = plan.len() / RECORD_SIZE;
     let s = slot_at(plan, i);
-    let j = place_of(instants, intervals, s.start_tick);
+    let j = interval_of(instants, intervals, s.start_tick);
     let end = instants[j + 1];
     let mut l = i + 1;
     while l < m {

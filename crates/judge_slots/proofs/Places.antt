@@ -11,7 +11,7 @@ use lib.ListN.{getD}
 use Rattle.model.specs.Plans.{Slot}
 use Rattle.model.specs.Stands.{Between, EndsBy, ends, starts}
 use Rattle.model.proofs.Fractions.{compare≤}
-use Rattle.judge_clauses.specs.Tests.{InTurn, SlotLong, by-fan, by-interval, by-time, placeOf, scan}
+use Rattle.judge_clauses.specs.Tests.{InTurn, SlotLong, by-fan, by-interval, by-time, intervalOf, scan}
 
 -- ---- the interval of a tick
 
@@ -38,7 +38,7 @@ module _ (instants : List ℕ) (t : ℕ) where
     | inr q ↦ let e : suc n - 1 ≡ n = omega arith in scan-on j (suc n) (omega arith) (h j q) ∙ rw e (scan-at n (j + 1) i (omega arith) (omega arith) h l)
   ]
 
-  pub place-at : (J i : ℕ) → i < J → ((l : ℕ) → l < i → getD instants (l + 1) 0 ≤ t) → t < getD instants (i + 1) 0 → placeOf instants J t ≡ i
+  pub place-at : (J i : ℕ) → i < J → ((l : ℕ) → l < i → getD instants (l + 1) 0 ≤ t) → t < getD instants (i + 1) 0 → intervalOf instants J t ≡ i
   place-at J i l = scan-at J 0 i (omega arith) (omega arith)
 
 -- ---- moments

@@ -18,7 +18,7 @@ ghost use Rattle.model.specs.Records.{recordSize};
 ghost use Rattle.model.specs.Stands.{Between};
 ghost use Rattle.records.specs.Held.{asClass, asSlot};
 ghost use Rattle.records.specs.Plan.{slotIn};
-ghost use Rattle.judge_clauses.specs.Tests.{Tells, SlotNames, SlotLong, SlotFits, InPlace, placeOf, orderHeld};
+ghost use Rattle.judge_clauses.specs.Tests.{Tells, SlotNames, SlotLong, SlotFits, InPlace, intervalOf, orderHeld};
 
 // "that class's W and P, an existing fan".
 fn slot_names(s: Slot, fans: u32, number: u32, c: Class) -> bool
@@ -62,9 +62,9 @@ fn between(s: Slot, from: u32, to: u32) -> bool
 }
 
 // The interval in which a tick lies; the number of intervals where it lies in none.
-pub fn place_of(instants: &[u32; MOST_INSTANTS], intervals: usize, tick: u32) -> usize
+pub fn interval_of(instants: &[u32; MOST_INSTANTS], intervals: usize, tick: u32) -> usize
     requires { ⌜ intervals ≤ mostIntervals ⌝ }
-    ensures { λ r. ⌜ (r ≡ placeOf (now (instants .entry)) intervals tick) × (r ≤ intervals) ⌝ }
+    ensures { λ r. ⌜ (r ≡ intervalOf (now (instants .entry)) intervals tick) × (r ≤ intervals) ⌝ }
 {
     let mut j = 0;
     while j < intervals {
@@ -81,7 +81,7 @@ fn in_place(s: Slot, instants: &[u32; MOST_INSTANTS], intervals: usize) -> bool
     requires { ⌜ intervals ≤ mostIntervals ⌝ }
     ensures { λ t. ⌜ Tells t (InPlace (now (instants .entry)) intervals (asSlot s)) ⌝ }
 {
-    let j = place_of(instants, intervals, s.start_tick);
+    let j = interval_of(instants, intervals, s.start_tick);
     if intervals <= j {
         return false;
     }

@@ -16,7 +16,7 @@ ghost use Rattle.records.specs.Plan.{slotIn};
 ghost use Rattle.judge_clauses.specs.Tests.{Tells, Counts, unitsUpTo, needIn};
 
 // The sums are what the doses need.
-fn all_met(
+fn sums_met(
     sums: [u64; MOST_DOSES],
     plan: &[u8],
     numbers: &[u32; MOST_DOSES],
@@ -66,5 +66,5 @@ pub fn units_met(
         sums[k] = had + units;
         i += 1;
     }
-    all_met(sums, plan, numbers, grams, doses)
+    sums_met(sums, plan, numbers, grams, doses)
 }

@@ -9,7 +9,7 @@ use Rattle.model.proofs.Answers.{draws-one, judges-one, moves-one}
 use Rattle.knellgable.specs.declared.Planned.{Planned}
 use Rattle.knellgable.specs.declared.Judged.{Judged}
 use Rattle.knellgable.specs.declared.Drawn.{Drawn}
-use Rattle.knellgable.specs.Exported.{Numbers, DrawsNumbers, MovesNumbers, asJudged, asPlanned, stateNumber, stateFan}
+use Rattle.knellgable.specs.Exported.{DrawnNumbers, DrawsNumbers, MovesNumbers, asJudged, asPlanned, stateNumber, stateFan}
 
 -- ---- planning and judging
 
@@ -48,7 +48,7 @@ heldDrawn d = record {
   fan = stateFan (d .point .state);
 }
 
-drawn-is : {d : answers.Drawn} {r : Drawn} → Numbers d r → r ≡ heldDrawn d
+drawn-is : {d : answers.Drawn} {r : Drawn} → DrawnNumbers d r → r ≡ heldDrawn d
 drawn-is n = λ i. record {
   number = n .answer i .number;
   place = n .answer i .place;
@@ -60,7 +60,7 @@ drawn-is n = λ i. record {
   fan = n .fan i;
 }
 
-same-numbers : {d e : answers.Drawn} {r s : Drawn} → d ≡ e → Numbers d r → Numbers e s → r ≡ s
+same-numbers : {d e : answers.Drawn} {r s : Drawn} → d ≡ e → DrawnNumbers d r → DrawnNumbers e s → r ≡ s
 same-numbers q n m = drawn-is n ∙ ap heldDrawn q ∙ sym (drawn-is m)
 
 pub points-once : {order plan : List ℕ} {dose tick : ℕ} {r s : Drawn} → DrawsNumbers order plan dose tick r → DrawsNumbers order plan dose tick s → r ≡ s

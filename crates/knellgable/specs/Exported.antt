@@ -32,7 +32,7 @@ stateFan idle = 0
 stateFan (dosing fan) = fan
 
 -- the numbers of what is drawn
-pub record Numbers (d : answers.Drawn) (r : Drawn) : Type 0 where
+pub record DrawnNumbers (d : answers.Drawn) (r : Drawn) : Type 0 where
   pub answer : answerOf (r .number) (r .place) (r .set) (r .grams) (r .time) ≡ d .answer
   pub amount : r .amount ≡ d .point .amount
   pub state : r .state ≡ stateNumber (d .point .state)
@@ -41,10 +41,10 @@ pub record Numbers (d : answers.Drawn) (r : Drawn) : Type 0 where
 pub record DrawsNumbers (order plan : List ℕ) (dose tick : ℕ) (r : Drawn) : Type 0 where
   pub drawn : answers.Drawn
   pub draws : Draws order plan dose tick drawn
-  pub numbers : Numbers drawn r
+  pub numbers : DrawnNumbers drawn r
 
 -- a pen whose tick alone is lent: its dose stays
 pub record MovesNumbers (order plan : List ℕ) (dose tick : ℕ) (r : Drawn) (after : ℕ) : Type 0 where
   pub drawn : answers.Drawn
   pub moves : Moves order plan (penAt dose tick) drawn (penAt dose after)
-  pub numbers : Numbers drawn r
+  pub numbers : DrawnNumbers drawn r

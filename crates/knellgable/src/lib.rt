@@ -4,7 +4,7 @@ ghost use mathlib.Core.Path.{_≡_};
 ghost use Rattle.model.specs.Answers.{Plans, Judges};
 ghost use Rattle.judge.specs.Verdict.{asAnswer};
 ghost use Rattle.draw.specs.Drawing.{answerOf, asState, asDrawn};
-ghost use Rattle.knellgable.specs.Exported.{asPlanned, asJudged, stateNumber, stateFan, Numbers, DrawsNumbers, MovesNumbers};
+ghost use Rattle.knellgable.specs.Exported.{asPlanned, asJudged, stateNumber, stateFan, DrawnNumbers, DrawsNumbers, MovesNumbers};
 use draw::State;
 
 // What planning answers: "Fields not meant are 0".
@@ -113,8 +113,8 @@ fn state_fan(s: State) -> u32
     }
 }
 
-fn numbers_of(d: draw::Drawn) -> Drawn
-    ensures { λ r. ⌜ Numbers (asDrawn d) r ⌝ }
+fn drawn_numbers(d: draw::Drawn) -> Drawn
+    ensures { λ r. ⌜ DrawnNumbers (asDrawn d) r ⌝ }
 {
     let point = d.point;
     let s = point.state;
@@ -138,7 +138,7 @@ pub extern "C" fn knellgable_point(order: &[u8], plan: &[u8], dose: usize, tick:
     ensures { λ r. ⌜ DrawsNumbers (now (order .entry)) (now (plan .entry)) dose tick r ⌝ }
 {
     let d = draw::point_at(order, plan, dose, tick);
-    numbers_of(d)
+    drawn_numbers(d)
 }
 
 // The pen as a dose and a lent tick, moved on by one.
@@ -153,5 +153,5 @@ pub extern "C" fn knellgable_advance(
 {
     let m = draw::move_on(order, plan, dose, *tick);
     *tick = m.tick;
-    numbers_of(m.drawn)
+    drawn_numbers(m.drawn)
 }

@@ -76,7 +76,7 @@ fn put_line(b: &mut [u8], at: usize, word: &[u8], numbers: &[u64]) -> usize
 }
 
 // "`class` number, doses, W, P"
-fn put_class(b: &mut [u8], at: usize, c: Class) -> usize
+fn put_class_line(b: &mut [u8], at: usize, c: Class) -> usize
     requires { ⌜ at + 160 ≤ length (now b) ⌝ }
     ensures { λ r. ⌜ Put (classText (asClass c)) (now (b .entry)) at (now (b .exit)) r ⌝ }
 {
@@ -90,7 +90,7 @@ fn put_class(b: &mut [u8], at: usize, c: Class) -> usize
 }
 
 // "`slot` fan, dose, start tick, part, end tick, part, class"
-fn put_slot(b: &mut [u8], at: usize, s: Slot) -> usize
+fn put_slot_line(b: &mut [u8], at: usize, s: Slot) -> usize
     requires { ⌜ at + 160 ≤ length (now b) ⌝ }
     ensures { λ r. ⌜ Put (slotText (asSlot s)) (now (b .entry)) at (now (b .exit)) r ⌝ }
 {
@@ -112,9 +112,9 @@ fn put_record(b: &mut [u8], at: usize, plan: &[u8], i: usize) -> usize
     ensures { λ r. ⌜ Put (recordText (recordAt (now (plan .entry)) i)) (now (b .entry)) at (now (b .exit)) r ⌝ }
 {
     if kind_at(plan, i) == CLASS_KIND {
-        return put_class(b, at, class_at(plan, i));
+        return put_class_line(b, at, class_at(plan, i));
     }
-    put_slot(b, at, slot_at(plan, i))
+    put_slot_line(b, at, slot_at(plan, i))
 }
 
 // The lines of the first n records of a plan.

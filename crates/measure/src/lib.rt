@@ -78,7 +78,7 @@ pub fn size_of(doses: usize, set: [bool; MOST_DOSES]) -> u64
 }
 
 // The active doses so far, interval by interval, with one dose more.
-fn with_dose(
+fn count_dose(
     counts: &mut [u64; MOST_INTERVALS],
     release: u32,
     deadline: u32,
@@ -115,7 +115,7 @@ fn active_row(
             k += 1;
             continue;
         }
-        with_dose(&mut counts, release[k], deadline[k], instants, intervals);
+        count_dose(&mut counts, release[k], deadline[k], instants, intervals);
         k += 1;
     }
     counts

@@ -244,7 +244,7 @@ fn heads() {
     show(&two);
 }
 
-fn first_clash() {
+fn two_clashes() {
     word(b"two clashes, the first in record 3\n");
     let mut b = [0u8; 160];
     put_dose(&mut b, 0, 5, 10, 20, 1);
@@ -264,5 +264,5 @@ fn main() {
     windows();
     clashes();
     heads();
-    first_clash();
+    two_clashes();
 }

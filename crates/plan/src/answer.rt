@@ -84,7 +84,7 @@ fn write_order(
 }
 
 // Refusal 9, or the plan written: the last of the checks comes before the first byte.
-pub fn settle(
+pub fn answer_order(
     o: Order,
     tally: Tally,
     shares: &[u64; CELLS],

@@ -3,8 +3,8 @@ mod answer; // answer.rt: what comes back
 mod tables; // tables.rt: the tables that slots are laid by
 mod write; // write.rt: the plan's records
 
+use answer::answer_order;
 use answer::refused;
-use answer::settle;
 use order::Order;
 use steps::limits::CELLS;
 use steps::limits::MOST_DOSES;
@@ -38,7 +38,7 @@ fn plan_order(o: Order, plan: &mut [u8]) -> Planned
     let mut shares = [0u64; CELLS];
     let mut reserved = [[0u8; MOST_INTERVALS]; MOST_DOSES];
     let tally = classes::classes_of(o, &mut shares, &mut reserved);
-    settle(o, tally, &shares, &reserved, plan)
+    answer_order(o, tally, &shares, &reserved, plan)
 }
 
 // "Planning checks 1, 2, then record by record 3, 4, 5 in that order, then 6, 7, 8, 9." "A refusal changes no byte".

@@ -20,7 +20,7 @@ ghost use Rattle.plan_layout.specs.Laying.{Filled, Wrote};
 ghost use Rattle.plan.specs.Held.{classFrom, classesFrom, bytesFrom};
 
 // "1 class number from 1; 2-3 doses in it; 4-7 W; 8-11 P"
-fn class_at(t: Tables, i: usize) -> Class
+fn class_from(t: Tables, i: usize) -> Class
     requires { ⌜ (t .doses ≤ mostDoses) × (i < mostDoses) ⌝ }
     ensures { λ r. ⌜ asClass r ≡ classFrom t i ⌝ }
 {
@@ -41,7 +41,7 @@ fn put_classes(b: &mut [u8], t: Tables) -> usize
 {
     let mut i = 0;
     while i < t.classes {
-        records::put_class(b, RECORD_SIZE * i, class_at(t, i));
+        records::put_class(b, RECORD_SIZE * i, class_from(t, i));
         i += 1;
     }
     i

@@ -48,7 +48,7 @@ fn read_on(order: &mut [u8], at: usize) -> Input
 }
 
 // Reads until the buffer is full, the input ends or can't be read.
-fn read_order(order: &mut [u8]) -> Input
+fn read_input(order: &mut [u8]) -> Input
     ensures { λ r. ⌜ Counts (r .bytes) (now (order .exit)) ⌝ }
 {
     let mut at = 0;
@@ -112,7 +112,7 @@ pub extern "C" fn printer_main() -> i32
     ensures { λ r. ⌜ Exits r ⌝ }
 {
     let mut order = [0u8; 1601];
-    let input = read_order(&mut order);
+    let input = read_input(&mut order);
     if !input.readable {
         return 2;
     }

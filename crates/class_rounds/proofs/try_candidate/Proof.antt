@@ -49,11 +49,11 @@ slice-aggregate-find-shares-3 c = search needs
 find-shares-requires : tie.Need-find-shares-requires
 find-shares-requires c κs = search needs
 
-slice-aggregate-all-met : tie.Need-slice-aggregate-all-met
-slice-aggregate-all-met c = search needs
+slice-aggregate-needs-met : tie.Need-slice-aggregate-needs-met
+slice-aggregate-needs-met c = search needs
 
-all-met-requires : tie.Need-all-met-requires
-all-met-requires c κs = search needs
+needs-met-requires : tie.Need-needs-met-requires
+needs-met-requires c κs = search needs
 
 dead-part-requires : tie.Need-dead-part-requires
 dead-part-requires c κs = search needs
@@ -77,7 +77,7 @@ returns c =
     let by-windows = measured (A .doses) (A .intervals) (A .release .now) (A .deadline .now) (A .grams .now) (A .instants .now) (setOf (A .set)) (A .set) (λ k l. refl) (rowOf (A .free)) (A .free) (λ j l. refl)
     (opened .result) (weighed .result) (timed .result) (opened .ensures) (weighed .ensures) (timed .ensures) in
     let known = measured-same _ _ (arrays .same) by-windows in
-    (known, opened .ensures .small, tried _ _ _ _ _ _ _ _ (A .free) (A .set) arrays (opened .result) _ _ known _ _ _ roomy held needed _ _ (c .dead-part .result) _ raised (c .before .all-met .ensures) (c .dead-part .ensures))
+    (known, opened .ensures .small, tried _ _ _ _ _ _ _ _ (A .free) (A .set) arrays (opened .result) _ _ known _ _ _ roomy held needed _ _ (c .dead-part .result) _ raised (c .before .needs-met .ensures) (c .dead-part .ensures))
 
 pub try-candidate-spec : {M : Type 1} → statement M
 try-candidate-spec =
@@ -93,8 +93,8 @@ try-candidate-spec =
     slice-aggregate-find-shares-2
     slice-aggregate-find-shares-3
     find-shares-requires
-    slice-aggregate-all-met
-    all-met-requires
+    slice-aggregate-needs-met
+    needs-met-requires
     dead-part-requires
     same-length
     returns)

@@ -17,8 +17,8 @@ class-of-requires c κs = search needs
 returns : tie.Need-returns Inv-loop μ-loop
 returns c = search needs
 
-grams-of-requires : tie.Need-grams-of-requires Inv-loop μ-loop
-grams-of-requires c κs = search needs
+class-weight-requires : tie.Need-class-weight-requires Inv-loop μ-loop
+class-weight-requires c κs = search needs
 
 loop-holds : tie.Need-loop-holds Inv-loop μ-loop
 loop-holds c = search needs
@@ -58,7 +58,7 @@ dose-served-spec =
     μ-loop
     class-of-requires
     returns
-    grams-of-requires
+    class-weight-requires
     loop-holds
     share-at-requires
     stands-requires

@@ -8,8 +8,8 @@ use Rattle.classes_seen.proofs.show.Tie as tie
 read-order-requires : tie.Need-read-order-requires
 read-order-requires c κs = search needs
 
-refused-requires : tie.Need-refused-requires
-refused-requires c κs = search needs
+show-refused-requires : tie.Need-show-refused-requires
+show-refused-requires c κs = search needs
 
 slice-aggregate-word : tie.Need-slice-aggregate-word
 slice-aggregate-word c = search needs
@@ -31,7 +31,7 @@ show-spec =
     tie.close
     (tie.spec
     read-order-requires
-    refused-requires
+    show-refused-requires
     slice-aggregate-word
     word-requires
     returns

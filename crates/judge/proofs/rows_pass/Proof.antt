@@ -23,11 +23,11 @@ slot-rows-requires c κs = search needs
 returns-4 : tie.Need-returns-4
 returns-4 c = tells-off (λ h. tells-not (c .before .slot-rows .ensures) (c .if4 .taken) (h .slot-rows))
 
-numbered-requires : tie.Need-numbered-requires
-numbered-requires c κs = search needs
+all-numbered-requires : tie.Need-all-numbered-requires
+all-numbered-requires c κs = search needs
 
 returns-5 : tie.Need-returns-5
-returns-5 c = tells-off (λ h. tells-not (c .before .numbered .ensures) (c .if5 .taken) (h .numbered))
+returns-5 c = tells-off (λ h. tells-not (c .before .all-numbered .ensures) (c .if5 .taken) (h .numbered))
 
 rates-fall-requires : tie.Need-rates-fall-requires
 rates-fall-requires c κs = search needs
@@ -38,7 +38,7 @@ returns-6 c =
     let b = c .before .before .before .before .before .before .before .if2 .left in
     let d = tells-was (c .before .before .before .before .before .before .class-rows .ensures) (c .before .before .before .before .before .if3 .left) in
     let e = tells-was (c .before .before .before .before .slot-rows .ensures) (c .before .before .before .if4 .left) in
-    let f = tells-was (c .before .before .numbered .ensures) (c .before .if5 .left) in
+    let f = tells-was (c .before .before .all-numbered .ensures) (c .before .if5 .left) in
     tells-by (c .rates-fall .ensures) (λ q. record { whole = a; few = b; class-rows = d; slot-rows = e; numbered = f; falls = q }) (λ h. h .falls)
 
 pub rows-pass-spec : {M : Type 1} → statement M
@@ -51,7 +51,7 @@ rows-pass-spec =
     returns-3
     slot-rows-requires
     returns-4
-    numbered-requires
+    all-numbered-requires
     returns-5
     rates-fall-requires
     returns-6)

@@ -25,11 +25,11 @@ abbrev μ-loop : tie.MeasureT-loop
 slot-at-requires : tie.Need-slot-at-requires Inv-loop μ-loop
 slot-at-requires c κs = search needs
 
-place-of-requires : tie.Need-place-of-requires Inv-loop μ-loop
-place-of-requires c κs = search needs
+interval-of-requires : tie.Need-interval-of-requires Inv-loop μ-loop
+interval-of-requires c κs = search needs
 
 add-end : tie.Need-add-end Inv-loop μ-loop
-add-end c = omega (arith, c .place-of .ensures .1, c .before .before .before .pre .0)
+add-end c = omega (arith, c .interval-of .ensures .1, c .before .before .before .pre .0)
 
 mul-end : tie.Need-mul-end Inv-loop μ-loop
 mul-end c = search needs
@@ -39,7 +39,7 @@ element-copy-out-end c =
     let A = c .before .before .before .args in
     let l : placeIn (A .instants .now) (A .intervals) (asSlot (c .before .slot-at .result)) < A .intervals =
     subst (λ (x : plans.Slot). placeIn (A .instants .now) (A .intervals) x < A .intervals) (sym (c .before .slot-at .ensures)) (c .before .before .before .pre .3 .place (A .i) (c .before .before .before .pre .2) (c .before .before .before .pre .1)) in
-    omega (arith, c .place-of .ensures .0, c .before .before .before .pre .0)
+    omega (arith, c .interval-of .ensures .0, c .before .before .before .pre .0)
 
 add-l : tie.Need-add-l Inv-loop μ-loop
 add-l c = search needs
@@ -55,7 +55,7 @@ returns c =
     let A = c .before .before .before .before .before .before .before .before .before .args in
     let L = c .before .before .before .before .loop in
     let e : getD (A .instants .now) (placeIn (A .instants .now) (A .intervals) (slotIn (A .plan .now) (A .i)) + 1) 0 ≤ slotIn (A .plan .now) (L .l) .startTick =
-    rw (← c .before .before .before .before .before .before .before .slot-at .ensures, ← c .before .before .slot-at2 .ensures, ← c .before .before .before .before .before .before .place-of .ensures .0) (c .if1 .taken) in
+    rw (← c .before .before .before .before .before .before .before .slot-at .ensures, ← c .before .before .slot-at2 .ensures, ← c .before .before .before .before .before .before .interval-of .ensures .0) (c .if1 .taken) in
     tells-on (record {
       apart = λ k km ik q. elim (compare≤ (L .l) k) [
         | inl g ↦ absurd (past-interval (c .before .before .before .before .before .before .before .before .before .pre .3) (c .before .before .before .before .before .before .before .before .before .pre .1) (L .l) (omega arith) (omega arith) e k g km q)
@@ -71,7 +71,7 @@ returns-2 c =
     let A = c .before .before .before .before .before .before .before .before .before .before .before .args in
     let L = c .before .before .before .before .before .before .loop in
     let e : slotIn (A .plan .now) (L .l) .startTick < getD (A .instants .now) (placeIn (A .instants .now) (A .intervals) (slotIn (A .plan .now) (A .i)) + 1) 0 =
-    rw (← c .before .before .before .before .before .before .before .before .before .slot-at .ensures, ← c .before .before .before .before .slot-at2 .ensures, ← c .before .before .before .before .before .before .before .before .place-of .ensures .0) (c .before .before .if1 .left) in
+    rw (← c .before .before .before .before .before .before .before .before .before .slot-at .ensures, ← c .before .before .before .before .slot-at2 .ensures, ← c .before .before .before .before .before .before .before .before .interval-of .ensures .0) (c .before .before .if1 .left) in
     let same = in-interval (c .before .before .before .before .before .before .before .before .before .before .before .pre .3) (c .before .before .before .before .before .before .before .before .before .before .before .pre .1) (L .l) (omega arith) (omega arith) e in
     tells-off (λ h. tells-not (c .before .apart .ensures) (c .if2 .taken) (rw (c .before .before .before .before .before .before .before .before .before .slot-at .ensures, c .before .before .before .before .slot-at2 .ensures) (h .apart (L .l) (omega arith) (omega arith) same)))
 
@@ -94,7 +94,7 @@ clear-after-spec =
     Inv-loop
     μ-loop
     slot-at-requires
-    place-of-requires
+    interval-of-requires
     add-end
     mul-end
     element-copy-out-end

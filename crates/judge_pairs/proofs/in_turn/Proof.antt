@@ -9,30 +9,30 @@ use borrow.Author.Needs.{needs}
 use Rattle.judge_pairs.proofs.in_turn.Statement.{statement}
 use Rattle.judge_pairs.proofs.in_turn.Tie as tie
 
-place-of-requires : tie.Need-place-of-requires
-place-of-requires c κs = search needs
+interval-of-requires : tie.Need-interval-of-requires
+interval-of-requires c κs = search needs
 
-place-of-requires-2 : tie.Need-place-of-requires-2
-place-of-requires-2 c κs = search needs
+interval-of-requires-2 : tie.Need-interval-of-requires-2
+interval-of-requires-2 c κs = search needs
 
 returns : tie.Need-returns
-returns c = tells-on (by-interval (omega (arith, c .before .before .place-of .ensures .0, c .before .place-of2 .ensures .0, c .if1 .taken)))
+returns c = tells-on (by-interval (omega (arith, c .before .before .interval-of .ensures .0, c .before .interval-of2 .ensures .0, c .if1 .taken)))
 
 returns-2 : tie.Need-returns-2
 returns-2 c =
-    let a = c .before .before .before .place-of .ensures .0 in
-    let b = c .before .before .place-of2 .ensures .0 in
+    let a = c .before .before .before .interval-of .ensures .0 in
+    let b = c .before .before .interval-of2 .ensures .0 in
     let t = c .if2 .taken in
     tells-off (λ h. omega (arith, turn-place h))
 
 returns-3 : tie.Need-returns-3
-returns-3 c = tells-on (by-fan (omega (arith, c .before .before .before .before .before .before .place-of .ensures .0, c .before .before .before .before .before .place-of2 .ensures .0, c .before .before .before .before .if1 .left, c .before .before .before .if2 .left)) (c .if3 .taken))
+returns-3 c = tells-on (by-fan (omega (arith, c .before .before .before .before .before .before .interval-of .ensures .0, c .before .before .before .before .before .interval-of2 .ensures .0, c .before .before .before .before .if1 .left, c .before .before .before .if2 .left)) (c .if3 .taken))
 
 returns-4 : tie.Need-returns-4
 returns-4 c =
     let A = c .before .before .before .before .before .before .before .before .before .before .args in
     let e : placeIn (A .instants .now) (A .intervals) (asSlot (A .s)) ≡ placeIn (A .instants .now) (A .intervals) (asSlot (A .u)) =
-    omega (arith, c .before .before .before .before .before .before .before .before .before .place-of .ensures .0, c .before .before .before .before .before .before .before .before .place-of2 .ensures .0, c .before .before .before .before .before .before .before .if1 .left, c .before .before .before .before .before .before .if2 .left) in
+    omega (arith, c .before .before .before .before .before .before .before .before .before .interval-of .ensures .0, c .before .before .before .before .before .before .before .before .interval-of2 .ensures .0, c .before .before .before .before .before .before .before .if1 .left, c .before .before .before .before .before .before .if2 .left) in
     let t = c .if4 .taken in
     tells-off (λ h. omega (arith, turn-fan h e))
 
@@ -43,7 +43,7 @@ returns-5 : tie.Need-returns-5
 returns-5 c =
     let A = c .before .before .before .before .before .before .before .before .before .before .before .args in
     let e : placeIn (A .instants .now) (A .intervals) (asSlot (A .s)) ≡ placeIn (A .instants .now) (A .intervals) (asSlot (A .u)) =
-    omega (arith, c .before .before .before .before .before .before .before .before .before .before .place-of .ensures .0, c .before .before .before .before .before .before .before .before .before .place-of2 .ensures .0, c .before .before .before .before .before .before .before .before .if1 .left, c .before .before .before .before .before .before .before .if2 .left) in
+    omega (arith, c .before .before .before .before .before .before .before .before .before .before .interval-of .ensures .0, c .before .before .before .before .before .before .before .before .before .interval-of2 .ensures .0, c .before .before .before .before .before .before .before .before .if1 .left, c .before .before .before .before .before .before .before .if2 .left) in
     let f : A .s .fan ≡ A .u .fan = omega (arith, c .before .before .before .before .if3 .left, c .before .if4 .left) in
     tells-by (c .ends-by .ensures) (by-time e f) (λ h. turn-time h e f)
 
@@ -51,8 +51,8 @@ pub in-turn-spec : {M : Type 1} → statement M
 in-turn-spec =
     tie.close
     (tie.spec
-    place-of-requires
-    place-of-requires-2
+    interval-of-requires
+    interval-of-requires-2
     returns
     returns-2
     returns-3

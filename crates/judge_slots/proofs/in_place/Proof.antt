@@ -5,11 +5,11 @@ use borrow.Author.Needs.{needs}
 use Rattle.judge_slots.proofs.in_place.Statement.{statement}
 use Rattle.judge_slots.proofs.in_place.Tie as tie
 
-place-of-requires : tie.Need-place-of-requires
-place-of-requires c κs = search needs
+interval-of-requires : tie.Need-interval-of-requires
+interval-of-requires c κs = search needs
 
 returns : tie.Need-returns
-returns c = tells-off (λ h. omega (arith, h .place, c .before .place-of .ensures .0, c .if1 .taken))
+returns c = tells-off (λ h. omega (arith, h .place, c .before .interval-of .ensures .0, c .if1 .taken))
 
 mul-between : tie.Need-mul-between
 mul-between c = search needs
@@ -31,7 +31,7 @@ between-requires c κs = search needs
 
 returns-2 : tie.Need-returns-2
 returns-2 c =
-    let e = c .before .before .before .before .place-of .ensures .0 in
+    let e = c .before .before .before .before .interval-of .ensures .0 in
     let l = c .before .before .before .if1 .left in
     tells-by (c .between .ensures) (λ b. record { place = omega arith; interval = rw e at b }) (λ h. rw e (h .interval))
 
@@ -39,7 +39,7 @@ pub in-place-spec : {M : Type 1} → statement M
 in-place-spec =
     tie.close
     (tie.spec
-    place-of-requires
+    interval-of-requires
     returns
     mul-between
     element-copy-out-between

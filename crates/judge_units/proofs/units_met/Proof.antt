@@ -118,8 +118,8 @@ loop-again c =
       rw (a, b) (summed-more (A .grams .now) (A .plan .now) (A .numbers .now) (A .doses) (A .p) (L .i) (L .sums) (L .inv .4) (L .inv .1) (asSlot (c .before .before .before .before .before .before .slot-at .result)) (c .before .before .before .before .before .before .slot-at .ensures) (c .before .before .before .before .before .before .before .before .before .before .pre .3 (L .i) (within (L .inv .0) (c .before .before .before .before .before .before .before .loop-test .taken)) (L .inv .1)) (c .before .before .before .product .result) (c .before .before .before .product .ensures) (omega arith) (omega (arith, k .dose))),
     )
 
-all-met-requires : tie.Need-all-met-requires Inv-loop μ-loop
-all-met-requires c κs = (c .before .before .before .pre .0, c .before .before .before .pre .2)
+sums-met-requires : tie.Need-sums-met-requires Inv-loop μ-loop
+sums-met-requires c κs = (c .before .before .before .pre .0, c .before .before .before .pre .2)
 
 returns-2 : tie.Need-returns-2 Inv-loop μ-loop
 returns-2 c =
@@ -128,7 +128,7 @@ returns-2 c =
     let m = length (A .plan .now) / 32 in
     let done : (k : ℕ) → k < A .doses → getD (L .sums) k 0 ≡ unitsUpTo (A .plan .now) (A .p) m k =
     λ k l. L .inv .4 .total k l ∙ ap (λ (x : ℕ). unitsUpTo (A .plan .now) (A .p) x k) (omega arith) in
-    tells-by (c .all-met .ensures) (λ q k l. sym (done k l) ∙ q k l) (λ h k l. done k l ∙ h k l)
+    tells-by (c .sums-met .ensures) (λ q k l. sym (done k l) ∙ q k l) (λ h k l. done k l ∙ h k l)
 
 pub units-met-spec : {M : Type 1} → statement M
 units-met-spec =
@@ -155,5 +155,5 @@ units-met-spec =
     add-i
     loop-less
     loop-again
-    all-met-requires
+    sums-met-requires
     returns-2)

@@ -11,8 +11,8 @@ kind-at-requires c κs = search needs
 class-at-requires : tie.Need-class-at-requires
 class-at-requires c κs = search needs
 
-put-class-requires : tie.Need-put-class-requires
-put-class-requires c κs = search needs
+put-class-line-requires : tie.Need-put-class-line-requires
+put-class-line-requires c κs = search needs
 
 same-length : tie.Need-same-length
 same-length c = search needs
@@ -21,13 +21,13 @@ returns : tie.Need-returns
 returns c =
     let K = c .before .before .before .before .before .before .kind-at in
     let A = c .before .before .before .before .before .before .before .before .before .args in
-    put-of-class (A .plan .now) (A .i) (sym (K .ensures) ∙ c .before .before .before .before .before .if1 .taken) (c .before .before .before .class-at .ensures) (c .before .before .put-class .ensures)
+    put-of-class (A .plan .now) (A .i) (sym (K .ensures) ∙ c .before .before .before .before .before .if1 .taken) (c .before .before .before .class-at .ensures) (c .before .before .put-class-line .ensures)
 
 slot-at-requires : tie.Need-slot-at-requires
 slot-at-requires c κs = search needs
 
-put-slot-requires : tie.Need-put-slot-requires
-put-slot-requires c κs = search needs
+put-slot-line-requires : tie.Need-put-slot-line-requires
+put-slot-line-requires c κs = search needs
 
 same-length-2 : tie.Need-same-length-2
 same-length-2 c = search needs
@@ -36,7 +36,7 @@ returns-2 : tie.Need-returns-2
 returns-2 c =
     let K = c .before .before .before .before .before .before .kind-at in
     let A = c .before .before .before .before .before .before .before .before .before .args in
-    put-of-slot (A .plan .now) (A .i) (λ e. c .before .before .before .before .before .if1 .left (K .ensures ∙ e)) (c .before .before .before .slot-at .ensures) (c .before .before .put-slot .ensures)
+    put-of-slot (A .plan .now) (A .i) (λ e. c .before .before .before .before .before .if1 .left (K .ensures ∙ e)) (c .before .before .before .slot-at .ensures) (c .before .before .put-slot-line .ensures)
 
 pub put-record-spec : {M : Type 1} → statement M
 put-record-spec =
@@ -44,10 +44,10 @@ put-record-spec =
     (tie.spec
     kind-at-requires
     class-at-requires
-    put-class-requires
+    put-class-line-requires
     same-length
     returns
     slot-at-requires
-    put-slot-requires
+    put-slot-line-requires
     same-length-2
     returns-2)

@@ -71,20 +71,20 @@ loop-again c =
       },
     )
 
-mul-with-dose : tie.Need-mul-with-dose Inv-loop μ-loop
-mul-with-dose c = search needs
+mul-count-dose : tie.Need-mul-count-dose Inv-loop μ-loop
+mul-count-dose c = search needs
 
-element-copy-out-with-dose : tie.Need-element-copy-out-with-dose Inv-loop μ-loop
-element-copy-out-with-dose c = search needs
+element-copy-out-count-dose : tie.Need-element-copy-out-count-dose Inv-loop μ-loop
+element-copy-out-count-dose c = search needs
 
-mul-with-dose-2 : tie.Need-mul-with-dose-2 Inv-loop μ-loop
-mul-with-dose-2 c = search needs
+mul-count-dose-2 : tie.Need-mul-count-dose-2 Inv-loop μ-loop
+mul-count-dose-2 c = search needs
 
-element-copy-out-with-dose-2 : tie.Need-element-copy-out-with-dose-2 Inv-loop μ-loop
-element-copy-out-with-dose-2 c = search needs
+element-copy-out-count-dose-2 : tie.Need-element-copy-out-count-dose-2 Inv-loop μ-loop
+element-copy-out-count-dose-2 c = search needs
 
-with-dose-requires : tie.Need-with-dose-requires Inv-loop μ-loop
-with-dose-requires c κs =
+count-dose-requires : tie.Need-count-dose-requires Inv-loop μ-loop
+count-dose-requires c κs =
     let so = c .before .before .before .before .before .loop .inv .1 in
     (so .size, omega arith, λ j l. omega (arith, so .few j l))
 
@@ -100,7 +100,7 @@ loop-again-2 c =
     let A = c .before .before .before .before .before .before .before .args in
     let L = c .before .before .before .before .before .before .loop in
     let so = L .inv .1 in
-    let more = c .with-dose .ensures in
+    let more = c .count-dose .ensures in
     let inside : true ≡ setOf (A .t6) (L .k) = inside-if _ (c .before .before .before .before .if1 .left) in (
       omega arith,
       record {
@@ -131,11 +131,11 @@ active-row-spec =
     add-k
     loop-less
     loop-again
-    mul-with-dose
-    element-copy-out-with-dose
-    mul-with-dose-2
-    element-copy-out-with-dose-2
-    with-dose-requires
+    mul-count-dose
+    element-copy-out-count-dose
+    mul-count-dose-2
+    element-copy-out-count-dose-2
+    count-dose-requires
     add-k-2
     loop-less-2
     loop-again-2

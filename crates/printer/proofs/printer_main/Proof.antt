@@ -1,15 +1,15 @@
--- `printer_main` meets its contract: the lengths that `read_order` and `print` give back lie within their buffers.
+-- `printer_main` meets its contract: the lengths that `read_input` and `print` give back lie within their buffers.
 use mathlib.Core.Path.{sym}
 use lib.Seq.{length-take-le}
 use borrow.Author.Needs.{needs}
 use Rattle.printer.proofs.printer_main.Statement.{statement}
 use Rattle.printer.proofs.printer_main.Tie as tie
 
-slice-aggregate-read-order : tie.Need-slice-aggregate-read-order
-slice-aggregate-read-order c = search needs
+slice-aggregate-read-input : tie.Need-slice-aggregate-read-input
+slice-aggregate-read-input c = search needs
 
-read-order-requires : tie.Need-read-order-requires
-read-order-requires c κs = search needs
+read-input-requires : tie.Need-read-input-requires
+read-input-requires c κs = search needs
 
 returns : tie.Need-returns
 returns c = search needs
@@ -57,8 +57,8 @@ pub printer-main-spec : {M : Type 1} → statement M
 printer-main-spec =
     tie.close
     (tie.spec
-    slice-aggregate-read-order
-    read-order-requires
+    slice-aggregate-read-input
+    read-input-requires
     returns
     plan-buffer-requires
     text-buffer-requires

@@ -12,14 +12,14 @@ use Rattle.classes.proofs.Tally.after.Tie as tie
 left-of-requires : tie.Need-left-of-requires
 left-of-requires c κs = search needs
 
-cast-numbered : tie.Need-cast-numbered
-cast-numbered c = search needs
+cast-number-members : tie.Need-cast-number-members
+cast-number-members c = search needs
 
-add-numbered : tie.Need-add-numbered
-add-numbered c = search needs
+add-number-members : tie.Need-add-number-members
+add-number-members c = search needs
 
-numbered-requires : tie.Need-numbered-requires
-numbered-requires c κs = search needs
+number-members-requires : tie.Need-number-members-requires
+number-members-requires c κs = search needs
 
 mul-grams : tie.Need-mul-grams
 mul-grams c = search needs
@@ -49,7 +49,7 @@ returns c =
       class = refl;
       classed = ap (λ (m : ℕ). A .self .classed + m) (c .before .size-of .ensures .0);
       remaining = c .before .before .before .before .before .before .left-of .ensures;
-      numbers = c .before .before .before .before .numbered .ensures;
+      numbers = c .before .before .before .before .number-members .ensures;
       grams = getD-set-same (A .self .grams) (A .self .class) _ 0 (let e : length (A .self .grams) ≡ mostDoses = search needs in omega (arith, c .before .before .before .before .before .before .before .before .before .pre .0));
       time = getD-set-same (A .self .time) (A .self .class) _ 0 (let e : length (A .self .time) ≡ mostDoses = search needs in omega (arith, c .before .before .before .before .before .before .before .before .before .pre .0));
       other-grams = λ i d. getD-set-other (A .self .grams) (A .self .class) i _ 0 d;
@@ -61,9 +61,9 @@ after-spec =
     tie.close
     (tie.spec
     left-of-requires
-    cast-numbered
-    add-numbered
-    numbered-requires
+    cast-number-members
+    add-number-members
+    number-members-requires
     mul-grams
     array-write-grams
     mul-time

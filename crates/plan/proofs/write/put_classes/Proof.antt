@@ -25,8 +25,8 @@ loop-holds c = (omega arith, refl, classes-none _ _)
 mul-put-class : tie.Need-mul-put-class Inv-loop μ-loop
 mul-put-class c = search needs
 
-class-at-requires : tie.Need-class-at-requires Inv-loop μ-loop
-class-at-requires c κs = search needs
+class-from-requires : tie.Need-class-from-requires Inv-loop μ-loop
+class-from-requires c κs = search needs
 
 put-class-requires : tie.Need-put-class-requires Inv-loop μ-loop
 put-class-requires c κs = search needs
@@ -38,7 +38,7 @@ loop-less : tie.Need-loop-less Inv-loop μ-loop
 loop-less c = search needs
 
 loop-again : tie.Need-loop-again Inv-loop μ-loop
-loop-again c = (omega arith, omega arith, classes-more _ (c .before .before .before .before .before .before .before .loop .inv .2) (c .before .before .before .class-at .ensures) (c .before .before .put-class .ensures))
+loop-again c = (omega arith, omega arith, classes-more _ (c .before .before .before .before .before .before .before .loop .inv .2) (c .before .before .before .class-from .ensures) (c .before .before .put-class .ensures))
 
 same-length : tie.Need-same-length Inv-loop μ-loop
 same-length c = c .before .before .loop .inv .1
@@ -54,7 +54,7 @@ put-classes-spec =
     μ-loop
     loop-holds
     mul-put-class
-    class-at-requires
+    class-from-requires
     put-class-requires
     add-i
     loop-less

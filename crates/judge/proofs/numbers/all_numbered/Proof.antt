@@ -1,12 +1,12 @@
--- `numbered` meets its contract: every dose passed has one of the p classes.
+-- `all_numbered` meets its contract: every dose passed has one of the p classes.
 use Prim.Native.Nat.{ℕ, _-_, _<_, _≤_}
 use lib.ListN.{getD}
 use borrow.Author.Count.{below-more}
 use Rattle.judge_clauses.proofs.Tell.{tells-off, tells-on}
 use borrow.Author.Needs.{needs}
 use native.Mathlib.Omega.{arith}
-use Rattle.judge.proofs.numbers.numbered.Statement.{statement}
-use Rattle.judge.proofs.numbers.numbered.Tie as tie
+use Rattle.judge.proofs.numbers.all_numbered.Statement.{statement}
+use Rattle.judge.proofs.numbers.all_numbered.Tie as tie
 
 abbrev Inv-loop : tie.InvT-loop
 Inv-loop numbers doses p k₀ k = (k ≤ doses) × ((i : ℕ) → i < k → (1 ≤ getD numbers i 0) × (getD numbers i 0 ≤ p))
@@ -46,8 +46,8 @@ returns-3 c =
     let L = c .before .loop in
     tells-on (λ k l. L .inv .1 k (omega arith))
 
-pub numbered-spec : {M : Type 1} → statement M
-numbered-spec =
+pub all-numbered-spec : {M : Type 1} → statement M
+all-numbered-spec =
     tie.close
     (tie.spec
     Inv-loop

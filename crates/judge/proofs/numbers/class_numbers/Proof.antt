@@ -1,15 +1,15 @@
--- `numbers_of` meets its contract: the numbers so far are those of the slots passed (Naming).
+-- `class_numbers` meets its contract: the numbers so far are those of the slots passed (Naming).
 use mathlib.Core.Path.{_≡_, refl}
 use Prim.Native.Nat.{_-_, _/_, _≤_}
 use lib.ListN.{length}
-use Rattle.judge_clauses.specs.Tests.{Numbers}
+use Rattle.judge_clauses.specs.Tests.{ClassNumbers}
 use Rattle.judge.proofs.Naming.{numbers-more, numbers-none, numbers-to}
 use native.Mathlib.Omega.{arith}
-use Rattle.judge.proofs.numbers.numbers_of.Statement.{statement}
-use Rattle.judge.proofs.numbers.numbers_of.Tie as tie
+use Rattle.judge.proofs.numbers.class_numbers.Statement.{statement}
+use Rattle.judge.proofs.numbers.class_numbers.Tie as tie
 
 abbrev Inv-loop : tie.InvT-loop
-Inv-loop plan p m numbers₀ i₀ numbers i = (m ≡ length plan / 32) × (p ≤ i) × (i ≤ m) × Numbers plan p i numbers
+Inv-loop plan p m numbers₀ i₀ numbers i = (m ≡ length plan / 32) × (p ≤ i) × (i ≤ m) × ClassNumbers plan p i numbers
 
 abbrev μ-loop : tie.MeasureT-loop
 μ-loop plan p m numbers₀ i₀ numbers i = m - i
@@ -35,8 +35,8 @@ loop-again c = (refl, omega arith, omega arith, numbers-more _ _ _ _ _ _ (c .bef
 returns : tie.Need-returns Inv-loop μ-loop
 returns c = numbers-to (omega arith) (c .before .loop .inv .3)
 
-pub numbers-of-spec : {M : Type 1} → statement M
-numbers-of-spec =
+pub class-numbers-spec : {M : Type 1} → statement M
+class-numbers-spec =
     tie.close
     (tie.spec
     Inv-loop

@@ -1,8 +1,8 @@
--- `settle` meets its contract: a first class above the top rate is 9 with no byte written; else the plan is written (Answering).
+-- `answer_order` meets its contract: a first class above the top rate is 9 with no byte written; else the plan is written (Answering).
 use Rattle.plan.proofs.Answering.{slow-enough, too-fast}
 use borrow.Author.Needs.{needs}
-use Rattle.plan.proofs.answer.settle.Statement.{statement}
-use Rattle.plan.proofs.answer.settle.Tie as tie
+use Rattle.plan.proofs.answer.answer_order.Statement.{statement}
+use Rattle.plan.proofs.answer.answer_order.Tie as tie
 
 too-fast-requires : tie.Need-too-fast-requires
 too-fast-requires c κs = search needs
@@ -22,8 +22,8 @@ same-length c = search needs
 returns-2 : tie.Need-returns-2
 returns-2 c = slow-enough (c .before .before .before .before .before .too-fast .ensures) (c .before .before .before .before .if1 .left) (c .before .before .write-order .ensures)
 
-pub settle-spec : {M : Type 1} → statement M
-settle-spec =
+pub answer-order-spec : {M : Type 1} → statement M
+answer-order-spec =
     tie.close
     (tie.spec
     too-fast-requires

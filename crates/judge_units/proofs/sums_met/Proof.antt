@@ -1,4 +1,4 @@
--- `all_met` meets its contract: the sum of every dose passed is its need.
+-- `sums_met` meets its contract: the sum of every dose passed is its need.
 use mathlib.Core.Path.{_≡_, _∙_, ap, sym}
 use Prim.Native.Nat.{ℕ, _-_, _*_, _<_, _≤_}
 use lib.ListN.{getD}
@@ -9,8 +9,8 @@ use Rattle.judge_clauses.specs.Tests.{needIn}
 use Rattle.judge_clauses.proofs.Tell.{tells-off, tells-on}
 use borrow.Author.Needs.{needs}
 use native.Mathlib.Omega.{arith}
-use Rattle.judge_units.proofs.all_met.Statement.{statement}
-use Rattle.judge_units.proofs.all_met.Tie as tie
+use Rattle.judge_units.proofs.sums_met.Statement.{statement}
+use Rattle.judge_units.proofs.sums_met.Tie as tie
 
 abbrev Inv-loop : tie.InvT-loop
 Inv-loop plan numbers grams doses sums k₀ k = (k ≤ doses) × ((i : ℕ) → i < k → getD sums i 0 ≡ needIn grams plan numbers i)
@@ -78,8 +78,8 @@ returns-2 c =
     let L = c .before .loop in
     tells-on (λ k l. L .inv .1 k (omega arith))
 
-pub all-met-spec : {M : Type 1} → statement M
-all-met-spec =
+pub sums-met-spec : {M : Type 1} → statement M
+sums-met-spec =
     tie.close
     (tie.spec
     Inv-loop

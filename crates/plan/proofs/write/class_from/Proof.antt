@@ -1,12 +1,12 @@
--- `class_at` meets its contract: the number is i + 1, the doses are those of its set, W and P stand at place i.
+-- `class_from` meets its contract: the number is i + 1, the doses are those of its set, W and P stand at place i.
 use mathlib.Core.Path.{_∙_}
 use native.Mathlib.Omega.{arith}
 use Rattle.model.proofs.Sets.{weight-alike}
 use Rattle.order_arrays.specs.Arrays.{setOf}
 use Rattle.plan.specs.Held.{classFrom, membersFrom}
 use borrow.Author.Needs.{needs}
-use Rattle.plan.proofs.write.class_at.Statement.{statement}
-use Rattle.plan.proofs.write.class_at.Tie as tie
+use Rattle.plan.proofs.write.class_from.Statement.{statement}
+use Rattle.plan.proofs.write.class_from.Tie as tie
 
 set-of-requires : tie.Need-set-of-requires
 set-of-requires c κs = search needs
@@ -44,8 +44,8 @@ returns c =
     let members = weight-alike (A .t1 .doses) (λ k. 1) (setOf (marked .result)) (membersFrom (A .t1) (A .i)) (λ k l. marked .ensures k (omega arith)) in
     rw (c .before .before .size-of .ensures .0 ∙ members)
 
-pub class-at-spec : {M : Type 1} → statement M
-class-at-spec =
+pub class-from-spec : {M : Type 1} → statement M
+class-from-spec =
     tie.close
     (tie.spec
     set-of-requires

@@ -1,8 +1,8 @@
--- `set_of` meets its contract: the index rises to the number of doses, where the loop ends.
+-- `class_set` meets its contract: the index rises to the number of doses, where the loop ends.
 use Prim.Native.Nat.{_≤_, _-_}
 use borrow.Author.Needs.{needs}
-use Rattle.classes_seen.proofs.set_of.Statement.{statement}
-use Rattle.classes_seen.proofs.set_of.Tie as tie
+use Rattle.classes_seen.proofs.class_set.Statement.{statement}
+use Rattle.classes_seen.proofs.class_set.Tie as tie
 
 abbrev Inv-loop : tie.InvT-loop
 Inv-loop t i doses set₀ bit₀ k₀ set bit k = k ≤ doses
@@ -37,8 +37,8 @@ loop-again c = search needs
 returns : tie.Need-returns Inv-loop μ-loop
 returns c = search needs
 
-pub set-of-spec : {M : Type 1} → statement M
-set-of-spec =
+pub class-set-spec : {M : Type 1} → statement M
+class-set-spec =
     tie.close
     (tie.spec
     Inv-loop

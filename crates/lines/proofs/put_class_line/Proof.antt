@@ -1,8 +1,8 @@
--- `put_slot` meets its contract: the line's seven numbers are fields of the slot.
-use Rattle.lines.specs.Text.{slotText}
+-- `put_class_line` meets its contract: the line's four numbers are the fields of the class.
+use Rattle.lines.specs.Text.{classText}
 use borrow.Author.Needs.{needs}
-use Rattle.lines.proofs.put_slot.Statement.{statement}
-use Rattle.lines.proofs.put_slot.Tie as tie
+use Rattle.lines.proofs.put_class_line.Statement.{statement}
+use Rattle.lines.proofs.put_class_line.Tie as tie
 
 cast-t6 : tie.Need-cast-t6
 cast-t6 c = search needs
@@ -15,15 +15,6 @@ cast-t8 c = search needs
 
 cast-t9 : tie.Need-cast-t9
 cast-t9 c = search needs
-
-cast-t10 : tie.Need-cast-t10
-cast-t10 c = search needs
-
-cast-t11 : tie.Need-cast-t11
-cast-t11 c = search needs
-
-cast-t12 : tie.Need-cast-t12
-cast-t12 c = search needs
 
 slice-aggregate-put-line : tie.Need-slice-aggregate-put-line
 slice-aggregate-put-line c = search needs
@@ -38,20 +29,17 @@ same-length : tie.Need-same-length
 same-length c = search needs
 
 returns : tie.Need-returns
-unfolding slotText
+unfolding classText
 returns c = c .before .before .put-line .ensures
 
-pub put-slot-spec : {M : Type 1} → statement M
-put-slot-spec =
+pub put-class-line-spec : {M : Type 1} → statement M
+put-class-line-spec =
     tie.close
     (tie.spec
     cast-t6
     cast-t7
     cast-t8
     cast-t9
-    cast-t10
-    cast-t11
-    cast-t12
     slice-aggregate-put-line
     slice-aggregate-put-line-2
     put-line-requires

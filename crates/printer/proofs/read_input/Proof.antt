@@ -1,12 +1,12 @@
--- `read_order` meets its contract: each turn reads at least a byte and never over the buffer's end.
+-- `read_input` meets its contract: each turn reads at least a byte and never over the buffer's end.
 use mathlib.Core.Path.{_≡_, refl}
 use Prim.Native.Nat.{_-_, _≤_}
 use native.Mathlib.Omega.{arith}
 use borrow.Author.Needs.{needs}
 use lib.ListN.{length}
 use Rattle.io.proofs.Counting.{counts}
-use Rattle.printer.proofs.read_order.Statement.{statement}
-use Rattle.printer.proofs.read_order.Tie as tie
+use Rattle.printer.proofs.read_input.Statement.{statement}
+use Rattle.printer.proofs.read_input.Tie as tie
 
 abbrev Inv-loop : tie.InvT-loop
 Inv-loop order₀ at₀ order at = (length order ≡ length order₀) × (at ≤ length order)
@@ -41,8 +41,8 @@ same-length-2 c = search needs
 returns-2 : tie.Need-returns-2 Inv-loop μ-loop
 returns-2 c = counts _ _ (omega arith)
 
-pub read-order-spec : {M : Type 1} → statement M
-read-order-spec =
+pub read-input-spec : {M : Type 1} → statement M
+read-input-spec =
     tie.close
     (tie.spec
     Inv-loop

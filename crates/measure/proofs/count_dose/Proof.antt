@@ -1,4 +1,4 @@
--- `with_dose` meets its contract: every interval passed has its count, and 1 more where the dose is active; those ahead have theirs still.
+-- `count_dose` meets its contract: every interval passed has its count, and 1 more where the dose is active; those ahead have theirs still.
 use mathlib.Core.Bool.{Bool}
 use mathlib.Core.List.{List}
 use mathlib.Core.Path.{_≡_, refl, _∙_, ap}
@@ -10,8 +10,8 @@ use Rattle.model.specs.Limits.{mostIntervals}
 use Rattle.model.specs.Sets.{on}
 use Rattle.order_arrays.specs.Arrays.{within}
 use Rattle.steps.proofs.Loops.{stored, unreached}
-use Rattle.measure.proofs.with_dose.Statement.{statement}
-use Rattle.measure.proofs.with_dose.Tie as tie
+use Rattle.measure.proofs.count_dose.Statement.{statement}
+use Rattle.measure.proofs.count_dose.Tie as tie
 
 -- the count of interval m with the dose
 abbrev counted : List ℕ → ℕ → ℕ → List ℕ → ℕ → ℕ
@@ -96,8 +96,8 @@ loop-again c =
 returns : tie.Need-returns Inv-loop μ-loop
 returns c = let so = c .before .loop .inv .1 in (so .size, λ j l. so .passed j (omega arith))
 
-pub with-dose-spec : {M : Type 1} → statement M
-with-dose-spec =
+pub count-dose-spec : {M : Type 1} → statement M
+count-dose-spec =
     tie.close
     (tie.spec
     Inv-loop

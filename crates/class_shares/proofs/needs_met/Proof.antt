@@ -1,4 +1,4 @@
--- `all_met` meets its contract: every dose passed has its need.
+-- `needs_met` meets its contract: every dose passed has its need.
 use Prim.Native.Nat.{ℕ, _<_, _≤_, _-_}
 use mathlib.Core.Path.{_≡_, refl}
 use lib.ListN.{getD}
@@ -8,8 +8,8 @@ use borrow.Author.Count.{below-more}
 use Rattle.model.specs.Limits.{mostDoses}
 use Rattle.class_chains.specs.Chains.{got}
 use Rattle.steps.proofs.Tests.{not-both}
-use Rattle.class_shares.proofs.all_met.Statement.{statement}
-use Rattle.class_shares.proofs.all_met.Tie as tie
+use Rattle.class_shares.proofs.needs_met.Statement.{statement}
+use Rattle.class_shares.proofs.needs_met.Tie as tie
 
 abbrev Inv-loop : tie.InvT-loop
 Inv-loop x needs k₀ k = (k ≤ mostDoses) × ((i : ℕ) → i < k → got x i ≡ getD needs i 0)
@@ -44,8 +44,8 @@ loop-again c = (omega arith, below-more _ (c .before .before .before .before .lo
 returns-2 : tie.Need-returns-2 Inv-loop μ-loop
 returns-2 c = record { all = λ e k h. c .before .loop .inv .1 k (omega arith); some = λ e. absurd (not-both refl e) }
 
-pub all-met-spec : {M : Type 1} → statement M
-all-met-spec =
+pub needs-met-spec : {M : Type 1} → statement M
+needs-met-spec =
     tie.close
     (tie.spec
     Inv-loop

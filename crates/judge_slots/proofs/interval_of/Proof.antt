@@ -1,16 +1,16 @@
--- `place_of` meets its contract: the search from the interval reached finds what the whole search finds.
+-- `interval_of` meets its contract: the search from the interval reached finds what the whole search finds.
 use mathlib.Core.Path.{_≡_, _∙_, sym}
 use Prim.Native.Nat.{_+_, _-_, _≤_}
 use native.Mathlib.Nat.{sub-zero}
-use Rattle.judge_clauses.specs.Tests.{placeOf, scan}
+use Rattle.judge_clauses.specs.Tests.{intervalOf, scan}
 use Rattle.judge_slots.proofs.Places.{scan-none, scan-on, scan-stop}
 use borrow.Author.Needs.{needs}
 use native.Mathlib.Omega.{arith}
-use Rattle.judge_slots.proofs.place_of.Statement.{statement}
-use Rattle.judge_slots.proofs.place_of.Tie as tie
+use Rattle.judge_slots.proofs.interval_of.Statement.{statement}
+use Rattle.judge_slots.proofs.interval_of.Tie as tie
 
 abbrev Inv-loop : tie.InvT-loop
-Inv-loop instants intervals tick j₀ j = (j ≤ intervals) × (scan instants tick j (intervals - j) ≡ placeOf instants intervals tick)
+Inv-loop instants intervals tick j₀ j = (j ≤ intervals) × (scan instants tick j (intervals - j) ≡ intervalOf instants intervals tick)
 
 abbrev μ-loop : tie.MeasureT-loop
 μ-loop instants intervals tick j₀ j = intervals - j
@@ -46,8 +46,8 @@ loop-again c =
 returns-2 : tie.Need-returns-2 Inv-loop μ-loop
 returns-2 c = (sym (scan-none _ _ _ _ (omega arith)) ∙ c .before .loop .inv .1, omega arith)
 
-pub place-of-spec : {M : Type 1} → statement M
-place-of-spec =
+pub interval-of-spec : {M : Type 1} → statement M
+interval-of-spec =
     tie.close
     (tie.spec
     Inv-loop

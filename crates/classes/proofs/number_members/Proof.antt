@@ -1,4 +1,4 @@
--- `numbered` meets its contract: every dose passed has its number.
+-- `number_members` meets its contract: every dose passed has its number.
 use Prim.Native.Nat.{_-_}
 use mathlib.Core.Path.{refl}
 use mathlib.Core.Bool.{false}
@@ -8,8 +8,8 @@ use borrow.Author.Needs.{needs}
 use Rattle.model.specs.Limits.{mostDoses}
 use Rattle.classes.specs.Phase.{choose}
 use Rattle.order_arrays.proofs.Laws.{DoneTo, done-none, done-next, done-all}
-use Rattle.classes.proofs.numbered.Statement.{statement}
-use Rattle.classes.proofs.numbered.Tie as tie
+use Rattle.classes.proofs.number_members.Statement.{statement}
+use Rattle.classes.proofs.number_members.Tie as tie
 
 abbrev Inv-loop : tie.InvT-loop
 Inv-loop class before members numbers₀ k₀ numbers k = DoneTo 0 mostDoses (λ m. choose (getD members m false) class (getD before m 0)) k numbers
@@ -50,8 +50,8 @@ loop-again c = done-next (c .before .before .loop .inv) (omega arith) (c .choose
 returns : tie.Need-returns Inv-loop μ-loop
 returns c = done-all (c .before .loop .inv) (omega arith)
 
-pub numbered-spec : {M : Type 1} → statement M
-numbered-spec =
+pub number-members-spec : {M : Type 1} → statement M
+number-members-spec =
     tie.close
     (tie.spec
     Inv-loop
