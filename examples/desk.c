@@ -59,11 +59,11 @@ static struct bytes read_file(const char *name)
     return file;
 }
 
-static int refused(uint32_t number, size_t place, uint64_t set, uint64_t grams, uint64_t time)
+static int refused(uint32_t number, size_t place, uint64_t set, uint64_t weight, uint64_t time)
 {
     printf("refused %u %zu", number, place);
     if (number == 9)
-        printf(" %llu %llu %llu", (unsigned long long)set, (unsigned long long)grams, (unsigned long long)time);
+        printf(" %llu %llu %llu", (unsigned long long)set, (unsigned long long)weight, (unsigned long long)time);
     printf(" (%s)\n", refusals[number]);
     return 1;
 }
@@ -76,7 +76,7 @@ static int plan(struct bytes order, struct bytes *made)
         leave("no memory for ", "a plan");
     knellgable_planned p = knellgable_plan(order.at, order.count, made->at, KNELLGABLE_PLAN_ROOM);
     made->count = RECORD * (p.classes + p.slots);
-    return p.number == 0 ? 0 : refused(p.number, p.place, p.set, p.grams, p.time);
+    return p.number == 0 ? 0 : refused(p.number, p.place, p.set, p.weight, p.time);
 }
 
 static int write_file(struct bytes made, const char *name)
@@ -91,7 +91,7 @@ static int judge(struct bytes order, struct bytes given)
 {
     knellgable_judged j = knellgable_judge(order.at, order.count, given.at, given.count);
     if (j.number != 0)
-        return refused(j.number, j.place, j.set, j.grams, j.time);
+        return refused(j.number, j.place, j.set, j.weight, j.time);
     printf("stands\n");
     return 0;
 }
@@ -114,7 +114,7 @@ static int draw(struct bytes order, struct bytes given, size_t dose)
 {
     knellgable_drawn d = knellgable_point(order.at, order.count, given.at, given.count, dose, 0);
     if (d.number != 0)
-        return refused(d.number, d.place, d.set, d.grams, d.time);
+        return refused(d.number, d.place, d.set, d.weight, d.time);
     const uint8_t *r = record_of(order, dose);
     uint32_t release = number_at(r, 4), deadline = number_at(r, 8), step = (deadline - release + LINES - 1) / LINES;
     printf("tick grams state\n");

@@ -6,7 +6,7 @@ struct Planned {
     number: u32,
     place: usize,
     set: u64,
-    grams: u64,
+    weight: u64,
     time: u64,
     classes: usize,
     slots: usize,
@@ -17,7 +17,7 @@ struct Judged {
     number: u32,
     place: usize,
     set: u64,
-    grams: u64,
+    weight: u64,
     time: u64,
 }
 
@@ -26,7 +26,7 @@ struct Drawn {
     number: u32,
     place: usize,
     set: u64,
-    grams: u64,
+    weight: u64,
     time: u64,
     amount: u32,
     state: u32,

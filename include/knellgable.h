@@ -30,7 +30,8 @@
  *   11  no such dose (drawing)
  *   12  tick over 604,800, or pen already at or past 604,800 (drawing)
  * place is the record's index for 3, 4 and 5, that of the first D which overlaps an earlier one for 8, else 0. With 9 come the doses of the
- * first class as a set (bit i for dose i), their grams W and their fan time P: they show that no plan exists. Fields not meant are 0.
+ * first class as a set (bit i for dose i), their weight W, which is their grams together, and their fan time P: they show that no plan
+ * exists. Fields not meant are 0.
  */
 #ifndef KNELLGABLE_H
 #define KNELLGABLE_H
@@ -56,20 +57,20 @@ extern "C" {
 typedef struct {
     uint32_t number;
     size_t place;
-    uint64_t set, grams, time;
+    uint64_t set, weight, time;
     size_t classes, slots; /* C and S records written */
 } knellgable_planned;
 
 typedef struct {
     uint32_t number;
     size_t place;
-    uint64_t set, grams, time;
+    uint64_t set, weight, time;
 } knellgable_judged;
 
 typedef struct {
     uint32_t number;
     size_t place;
-    uint64_t set, grams, time;
+    uint64_t set, weight, time;
     uint32_t amount; /* whole grams up to the tick */
     uint32_t state;  /* one of the four above */
     uint32_t fan;    /* of Dosing, from 1; else 0 */

@@ -75,23 +75,23 @@ fn fields(house: &House, slots: &[Slot], r: &mut Random) -> Found {
         with("dose not of class", Slot { dose: k as u32, ..s });
     }
     // As many units of a class with a greater W: shorter, and so still apart from all others.
-    let greater = |i: &usize| *i + 1 != s.class as usize && house.classes[*i].grams >= u64::from(s.grams) && s.start.1 == 0;
+    let greater = |i: &usize| *i + 1 != s.class as usize && house.classes[*i].weight >= u64::from(s.weight) && s.start.1 == 0;
     if let Some(i) = (0..house.classes.len()).find(greater) {
-        let (w, p) = (house.classes[i].grams, house.classes[i].time);
+        let (w, p) = (house.classes[i].weight, house.classes[i].time);
         let (from, units) = (u64::from(s.start.0) * w, s.to() - s.from());
-        let renamed = Slot { class: i as u32 + 1, grams: w as u32, time: p as u32, ..s };
+        let renamed = Slot { class: i as u32 + 1, weight: w as u32, time: p as u32, ..s };
         with("dose not of class", renamed.cut(from, from + units));
     }
-    with("W or P", Slot { grams: s.grams + 1, ..s });
+    with("W or P", Slot { weight: s.weight + 1, ..s });
     with("W or P", Slot { time: s.time - 1, ..s });
-    with("W or P", Slot { grams: s.grams * 2, time: s.time * 2, start: (s.start.0, s.start.1 * 2), end: (s.end.0, s.end.1 * 2), ..s });
+    with("W or P", Slot { weight: s.weight * 2, time: s.time * 2, start: (s.start.0, s.start.1 * 2), end: (s.end.0, s.end.1 * 2), ..s });
     with("no such fan", Slot { fan: 0, ..s });
     with("no such fan", Slot { fan: house.order.fans + 1, ..s });
     if s.end.0 > 0 {
-        with("part not below W", Slot { end: (s.end.0 - 1, s.end.1 + s.grams), ..s });
+        with("part not below W", Slot { end: (s.end.0 - 1, s.end.1 + s.weight), ..s });
     }
     if s.start.0 > 0 {
-        with("part not below W", Slot { start: (s.start.0 - 1, s.start.1 + s.grams), ..s });
+        with("part not below W", Slot { start: (s.start.0 - 1, s.start.1 + s.weight), ..s });
     }
     if s.to() - s.from() > 1 {
         with("total", s.cut(s.from(), s.to() - 1));
@@ -125,7 +125,7 @@ fn places(house: &House, slots: &[Slot], r: &mut Random) -> Found {
     }
     let foreign = |j: usize| house.spans.active[j] >> s.dose & 1 == 0;
     if let Some((j, fan)) = (0..house.spans.count()).filter(|&j| foreign(j)).find_map(|j| idle_fan(house, slots, j).map(|f| (j, f))) {
-        let base = u64::from(house.spans.instants[j]) * u64::from(s.grams);
+        let base = u64::from(house.spans.instants[j]) * u64::from(s.weight);
         let unit = Slot { fan, ..s.cut(base, base + 1) };
         let rest = (s.to() - s.from() > 1).then(|| s.cut(s.from() + 1, s.to()));
         give("outside the window", sorted(house, without(i).chain([unit]).chain(rest).collect()));
@@ -146,7 +146,7 @@ fn places(house: &House, slots: &[Slot], r: &mut Random) -> Found {
 /// For each clause that this plan lets be broken: its name and the bytes. The plan must stand.
 pub fn each(house: &House, plan: &[u8], slots: &[Slot], r: &mut Random) -> Found {
     if slots.is_empty() {
-        let mut record = slot_record(&Slot { fan: 1, dose: 0, start: (0, 0), end: (1, 0), grams: 1, time: 1, class: 1 });
+        let mut record = slot_record(&Slot { fan: 1, dose: 0, start: (0, 0), end: (1, 0), weight: 1, time: 1, class: 1 });
         put(&mut record, 0, 1, u32::from(r.pick(b"SSC")));
         let name = if record[0] == b'S' { "no such class" } else { "zero byte" };
         return vec![(name, record.to_vec()), ("length", vec![0]), ("kind", vec![0; RECORD])];

@@ -33,7 +33,7 @@ fn accept_by(bytes: &[u8], find: Finder) -> Result<House, Judged> {
     let classes = find(&order, &spans);
     match classes.first() {
         Some(c) if classes::too_fast(&order, c) => {
-            Err(Judged { number: 9, place: 0, set: c.set, grams: c.grams as u32, time: c.time as u32 })
+            Err(Judged { number: 9, place: 0, set: c.set, weight: c.weight as u32, time: c.time as u32 })
         }
         _ => Ok(House { order, spans, classes }),
     }
@@ -93,11 +93,11 @@ impl House {
 }
 
 pub fn planned(j: Judged) -> Planned {
-    Planned { number: j.number, place: j.place, set: j.set, grams: j.grams, time: j.time, ..Planned::default() }
+    Planned { number: j.number, place: j.place, set: j.set, weight: j.weight, time: j.time, ..Planned::default() }
 }
 
 pub fn not_drawn(j: Judged) -> Drawn {
-    Drawn { number: j.number, place: j.place, set: j.set, grams: j.grams, time: j.time, state: SHUT, ..Drawn::default() }
+    Drawn { number: j.number, place: j.place, set: j.set, weight: j.weight, time: j.time, state: SHUT, ..Drawn::default() }
 }
 
 pub fn refused(number: u32) -> Drawn {

@@ -137,8 +137,8 @@ pub fn proved(c: &mut Checks) {
     let plan = example(c, "P6", &p6(), &[(1, 8, 2), (2, 4, 4)], &p6_slots);
     amounts(c, "P6", &p6(), &plan, 1, &[(0, 0, DOSING, 2), (1, 1, DOSING, 2), (2, 2, DOSING, 1), (3, 3, DOSING, 1), (4, 4, FINISHED, 0)]);
     example(c, "P7", &p1((4, 1)), &p1_classes, &p1_slots);
-    c.refused("P8", &write(&p1((3, 1)), 0), Judged { number: 9, place: 0, set: 2, grams: 16, time: 4 });
-    c.refused("P9", &write(&p9(), 0), Judged { number: 9, place: 0, set: 1, grams: 10, time: 3 });
+    c.refused("P8", &write(&p1((3, 1)), 0), Judged { number: 9, place: 0, set: 2, weight: 16, time: 4 });
+    c.refused("P9", &write(&p9(), 0), Judged { number: 9, place: 0, set: 1, weight: 10, time: 3 });
     let plan = example(c, "P10", &order(3, TOP, &[]), &[], &[]);
     print(c, "P10, printed whole", &order(3, TOP, &[]), &plan, "total 0 0\n");
     c.refused("P11", &[], Judged { number: 6, ..Judged::default() });

@@ -11,13 +11,13 @@ pub const FEW: usize = 12;
 pub struct Class {
     pub set: u32,
     /// W and P.
-    pub grams: u64,
+    pub weight: u64,
     pub time: u64,
     /// Fans reserved in each interval.
     pub reserved: Vec<u32>,
 }
 
-pub fn grams_of(order: &Order, set: u32) -> u64 {
+pub fn weight_of(order: &Order, set: u32) -> u64 {
     order.doses.iter().enumerate().filter(|(i, _)| set >> i & 1 == 1).map(|(_, d)| u64::from(d.grams)).sum()
 }
 
@@ -32,7 +32,7 @@ fn next_by_subsets(order: &Order, spans: &Intervals, free: &[u32], rest: u32) ->
     let mut equals = Vec::new();
     let mut set = rest;
     while set != 0 {
-        let (w, p) = (grams_of(order, set), open_time(spans, free, set));
+        let (w, p) = (weight_of(order, set), open_time(spans, free, set));
         let (mine, other) = (u128::from(w) * u128::from(best.1), u128::from(best.0) * u128::from(p));
         if mine > other {
             best = (w, p);
@@ -72,9 +72,9 @@ fn heaviest(order: &Order, spans: &Intervals, free: &[u32], rest: u32, w: u64, p
 fn next_by_flow(order: &Order, spans: &Intervals, free: &[u32], rest: u32) -> u32 {
     let mut set = rest;
     loop {
-        let (w, p) = (grams_of(order, set), open_time(spans, free, set));
+        let (w, p) = (weight_of(order, set), open_time(spans, free, set));
         let found = heaviest(order, spans, free, set, w, p);
-        let (w2, p2) = (grams_of(order, found), open_time(spans, free, found));
+        let (w2, p2) = (weight_of(order, found), open_time(spans, free, found));
         let (old, new) = (u128::from(w) * u128::from(p2), u128::from(w2) * u128::from(p));
         assert!(found != 0 && old <= new, "a flow's set pays at least as much");
         if old == new {
@@ -93,7 +93,7 @@ fn all_by(order: &Order, spans: &Intervals, next: Next, first_only: bool) -> Vec
     while rest != 0 && !(first_only && classes.len() == 1) {
         let set = next(order, spans, &free, rest);
         let reserved: Vec<u32> = (0..free.len()).map(|j| (spans.active[j] & set).count_ones().min(free[j])).collect();
-        classes.push(Class { set, grams: grams_of(order, set), time: open_time(spans, &free, set), reserved: reserved.clone() });
+        classes.push(Class { set, weight: weight_of(order, set), time: open_time(spans, &free, set), reserved: reserved.clone() });
         for (f, r) in free.iter_mut().zip(reserved) {
             *f -= r;
         }
@@ -126,5 +126,5 @@ pub fn first(order: &Order, spans: &Intervals) -> Option<Class> {
 
 /// Whether the first class asks for more than the top rate (refusal 9).
 pub fn too_fast(order: &Order, class: &Class) -> bool {
-    u128::from(class.grams) * u128::from(order.top_seconds) > u128::from(class.time) * u128::from(order.top_grams)
+    u128::from(class.weight) * u128::from(order.top_seconds) > u128::from(class.time) * u128::from(order.top_grams)
 }

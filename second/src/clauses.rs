@@ -13,7 +13,7 @@ fn compare(a: u64, aw: u32, b: u64, bw: u32) -> Ordering {
 }
 
 fn meet(a: &Slot, b: &Slot) -> bool {
-    compare(a.from(), a.grams, b.to(), b.grams).is_lt() && compare(b.from(), b.grams, a.to(), a.grams).is_lt()
+    compare(a.from(), a.weight, b.to(), b.weight).is_lt() && compare(b.from(), b.weight, a.to(), a.weight).is_lt()
 }
 
 fn some_pair(slots: &[Slot], fits: impl Fn(&Slot, &Slot) -> bool) -> bool {
@@ -25,16 +25,16 @@ fn of_slots(house: &House, slots: &[Slot]) -> [(Broken, bool); 8] {
     let class = |s: &Slot| house.classes.get((s.class as usize).wrapping_sub(1));
     let dose = |s: &Slot| house.order.doses.get(s.dose as usize);
     let within = |s: &Slot, a: u32, b: u32| {
-        let w = u64::from(s.grams);
+        let w = u64::from(s.weight);
         u64::from(a) * w <= s.from() && s.to() <= u64::from(b) * w
     };
     let some = |fits: &dyn Fn(&Slot) -> bool| slots.iter().any(fits);
     [
         ("no such class", some(&|s| class(s).is_none())),
         ("dose not of class", some(&|s| class(s).is_some_and(|c| dose(s).is_none() || c.set >> s.dose & 1 == 0))),
-        ("W or P", some(&|s| class(s).is_some_and(|c| (c.grams, c.time) != (u64::from(s.grams), u64::from(s.time))))),
+        ("W or P", some(&|s| class(s).is_some_and(|c| (c.weight, c.time) != (u64::from(s.weight), u64::from(s.time))))),
         ("no such fan", some(&|s| s.fan == 0 || s.fan > house.order.fans)),
-        ("part not below W", some(&|s| s.start.1 >= s.grams || s.end.1 >= s.grams)),
+        ("part not below W", some(&|s| s.start.1 >= s.weight || s.end.1 >= s.weight)),
         ("start not before end", some(&|s| s.from() >= s.to())),
         ("outside the window", some(&|s| dose(s).is_some_and(|d| !within(s, d.release, d.deadline)))),
         ("not in one interval", some(&|s| !house.spans.instants.windows(2).any(|i| within(s, i[0], i[1])))),
@@ -43,8 +43,8 @@ fn of_slots(house: &House, slots: &[Slot]) -> [(Broken, bool); 8] {
 
 /// Whether some slot comes before one that it should follow: by interval, fan, start.
 fn out_of_order(house: &House, slots: &[Slot]) -> bool {
-    let place = |s: &Slot| (house.spans.instants.iter().filter(|&&i| u64::from(i) * u64::from(s.grams) <= s.from()).count(), s.fan);
-    let later = |a: &Slot, b: &Slot| place(a).cmp(&place(b)).then_with(|| compare(a.from(), a.grams, b.from(), b.grams)).is_gt();
+    let place = |s: &Slot| (house.spans.instants.iter().filter(|&&i| u64::from(i) * u64::from(s.weight) <= s.from()).count(), s.fan);
+    let later = |a: &Slot, b: &Slot| place(a).cmp(&place(b)).then_with(|| compare(a.from(), a.weight, b.from(), b.weight)).is_gt();
     slots.windows(2).any(|w| later(&w[0], &w[1]))
 }
 

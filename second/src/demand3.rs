@@ -8,7 +8,7 @@ use crate::random::Random;
 
 /// Whether a slot covers the moment k/q.
 fn covers(s: &Slot, k: u64, q: u64) -> bool {
-    let moment = u128::from(k) * u128::from(s.grams);
+    let moment = u128::from(k) * u128::from(s.weight);
     u128::from(s.from()) * u128::from(q) <= moment && moment < u128::from(s.to()) * u128::from(q)
 }
 
@@ -17,7 +17,7 @@ fn exact(slots: &[Slot], dose: usize, k: u64, q: u64) -> u128 {
     let own = slots.iter().filter(|s| s.dose as usize == dose);
     own.map(|s| {
         let (from, to) = (u128::from(s.from()) * u128::from(q), u128::from(s.to()) * u128::from(q));
-        (u128::from(k) * u128::from(s.grams)).clamp(from, to) - from
+        (u128::from(k) * u128::from(s.weight)).clamp(from, to) - from
     })
     .sum()
 }
@@ -46,7 +46,7 @@ fn some_tick(house: &House, slots: &[Slot], dose: usize, r: &mut Random) -> u32 
 fn line(house: &House, slots: &[Slot], r: &mut Random) -> Result<(), String> {
     let dose = r.below(house.order.doses.len() as u64) as usize;
     let (d, class) = (house.order.doses[dose], &house.classes[class_of(&house.classes, dose)]);
-    let (w, p) = (u128::from(class.grams), u128::from(class.time));
+    let (w, p) = (u128::from(class.weight), u128::from(class.time));
     let (x, y) = (some_tick(house, slots, dose, r), some_tick(house, slots, dose, r));
     let (a, b) = (x.min(y), x.max(y));
     let (low, high) = (house.point(slots, dose, a).amount, house.point(slots, dose, b).amount);
@@ -81,8 +81,8 @@ fn waiting(house: &House, slots: &[Slot], r: &mut Random) -> Result<(), String> 
     let mine = own[r.below(own.len() as u64) as usize];
     let (mut k, q) = match r.below(4) {
         0 => (u64::from(some_tick(house, slots, dose, r)), 1),
-        1 => (mine.to(), u64::from(mine.grams)),
-        2 => (mine.from().saturating_sub(1), u64::from(mine.grams)),
+        1 => (mine.to(), u64::from(mine.weight)),
+        2 => (mine.from().saturating_sub(1), u64::from(mine.weight)),
         _ => {
             let q = u64::from(r.scaled(1, 1 << 30));
             (u64::from(d.release) * q + r.below(u64::from(d.deadline - d.release) * q), q)
@@ -100,7 +100,7 @@ fn waiting(house: &House, slots: &[Slot], r: &mut Random) -> Result<(), String> 
     }
     for fan in 1..=house.order.fans {
         let on: Vec<_> = running.iter().filter(|s| s.fan == fan).collect();
-        let good = on.len() == 1 && u128::from(on[0].grams) * u128::from(class.time) >= u128::from(class.grams) * u128::from(on[0].time);
+        let good = on.len() == 1 && u128::from(on[0].weight) * u128::from(class.time) >= u128::from(class.weight) * u128::from(on[0].time);
         if !good {
             return Err(format!("dose {dose} waits at {k}/{q} while fan {fan} is not busy at its rate"));
         }

@@ -25,7 +25,7 @@ fn program(house: &House) -> String {
                 [&mut total, &mut doses, row].into_iter().for_each(|text| text.push_str(&term));
                 writeln!(rooms, " 0 <= x{k}_{j} <= {}", house.spans.length(j)).unwrap();
             }
-            let need = f64::from(house.order.doses[k].grams) * class.time as f64 / class.grams as f64;
+            let need = f64::from(house.order.doses[k].grams) * class.time as f64 / class.weight as f64;
             writeln!(doses, " <= {need}").unwrap();
         }
         for (j, row) in reserved.iter().enumerate().filter(|(_, row)| !row.is_empty()) {

@@ -11,7 +11,7 @@ pub struct Slot {
     pub dose: u32,
     pub start: (u32, u32),
     pub end: (u32, u32),
-    pub grams: u32,
+    pub weight: u32,
     pub time: u32,
     pub class: u32,
 }
@@ -19,16 +19,16 @@ pub struct Slot {
 impl Slot {
     /// Start and end in units of 1/W tick.
     pub fn from(&self) -> u64 {
-        u64::from(self.start.0) * u64::from(self.grams) + u64::from(self.start.1)
+        u64::from(self.start.0) * u64::from(self.weight) + u64::from(self.start.1)
     }
 
     pub fn to(&self) -> u64 {
-        u64::from(self.end.0) * u64::from(self.grams) + u64::from(self.end.1)
+        u64::from(self.end.0) * u64::from(self.weight) + u64::from(self.end.1)
     }
 
     /// The same slot from one place of the line to another, in units.
     pub fn cut(&self, from: u64, to: u64) -> Slot {
-        let w = u64::from(self.grams);
+        let w = u64::from(self.weight);
         let moment = |x: u64| ((x / w) as u32, (x % w) as u32);
         Slot { start: moment(from), end: moment(to), ..*self }
     }
@@ -40,8 +40,8 @@ pub fn wrap(spans: &Intervals, classes: &[Class], shares: &[Shares]) -> Vec<Slot
     for (j, ends) in spans.instants.windows(2).enumerate() {
         let mut lowest = 0;
         for (i, class) in classes.iter().enumerate() {
-            let cut = u64::from(ends[1] - ends[0]) * class.grams;
-            let base = u64::from(ends[0]) * class.grams;
+            let cut = u64::from(ends[1] - ends[0]) * class.weight;
+            let base = u64::from(ends[0]) * class.weight;
             let mut at = 0;
             for (k, &share) in shares[i][j].iter().enumerate() {
                 let end = at + share;
@@ -53,7 +53,7 @@ pub fn wrap(spans: &Intervals, classes: &[Class], shares: &[Shares]) -> Vec<Slot
                         dose: k as u32,
                         start: (0, 0),
                         end: (0, 0),
-                        grams: class.grams as u32,
+                        weight: class.weight as u32,
                         time: class.time as u32,
                         class: i as u32 + 1,
                     };
@@ -72,7 +72,7 @@ pub fn class_record(number: usize, class: &Class) -> [u8; RECORD] {
     r[0] = b'C';
     put(&mut r, 1, 1, number as u32);
     put(&mut r, 2, 2, class.set.count_ones());
-    put(&mut r, 4, 4, class.grams as u32);
+    put(&mut r, 4, 4, class.weight as u32);
     put(&mut r, 8, 4, class.time as u32);
     r
 }
@@ -86,7 +86,7 @@ pub fn slot_record(s: &Slot) -> [u8; RECORD] {
     put(&mut r, 8, 4, s.start.1);
     put(&mut r, 12, 4, s.end.0);
     put(&mut r, 16, 4, s.end.1);
-    put(&mut r, 20, 4, s.grams);
+    put(&mut r, 20, 4, s.weight);
     put(&mut r, 24, 4, s.time);
     put(&mut r, 28, 1, s.class);
     r

@@ -5,7 +5,7 @@ pub struct Planned {
     pub number: u32,
     pub place: u32,
     pub set: u32,
-    pub grams: u32,
+    pub weight: u32,
     pub time: u32,
     pub classes: u32,
     pub slots: u32,
@@ -16,7 +16,7 @@ pub struct Judged {
     pub number: u32,
     pub place: u32,
     pub set: u32,
-    pub grams: u32,
+    pub weight: u32,
     pub time: u32,
 }
 
@@ -30,7 +30,7 @@ pub struct Drawn {
     pub number: u32,
     pub place: u32,
     pub set: u32,
-    pub grams: u32,
+    pub weight: u32,
     pub time: u32,
     pub amount: u32,
     pub state: u32,
@@ -56,7 +56,7 @@ mod linked {
         number: u32,
         place: usize,
         set: u64,
-        grams: u64,
+        weight: u64,
         time: u64,
         classes: usize,
         slots: usize,
@@ -67,7 +67,7 @@ mod linked {
         number: u32,
         place: usize,
         set: u64,
-        grams: u64,
+        weight: u64,
         time: u64,
     }
 
@@ -76,7 +76,7 @@ mod linked {
         number: u32,
         place: usize,
         set: u64,
-        grams: u64,
+        weight: u64,
         time: u64,
         amount: u32,
         state: u32,
@@ -105,8 +105,8 @@ mod linked {
 
     impl From<WideDrawn> for Drawn {
         fn from(w: WideDrawn) -> Drawn {
-            let (place, set, grams, time) = (narrow(w.place), narrow(w.set), narrow(w.grams), narrow(w.time));
-            Drawn { number: w.number, place, set, grams, time, amount: w.amount, state: w.state, fan: w.fan }
+            let (place, set, weight, time) = (narrow(w.place), narrow(w.set), narrow(w.weight), narrow(w.time));
+            Drawn { number: w.number, place, set, weight, time, amount: w.amount, state: w.state, fan: w.fan }
         }
     }
 
@@ -120,13 +120,13 @@ mod linked {
 
         fn plan(&self, order: &[u8], plan: &mut [u8]) -> Planned {
             let w = unsafe { knellgable_plan(order.as_ptr(), order.len(), plan.as_mut_ptr(), plan.len()) };
-            let (place, set, grams, time) = (narrow(w.place), narrow(w.set), narrow(w.grams), narrow(w.time));
-            Planned { number: w.number, place, set, grams, time, classes: narrow(w.classes), slots: narrow(w.slots) }
+            let (place, set, weight, time) = (narrow(w.place), narrow(w.set), narrow(w.weight), narrow(w.time));
+            Planned { number: w.number, place, set, weight, time, classes: narrow(w.classes), slots: narrow(w.slots) }
         }
 
         fn judge(&self, order: &[u8], plan: &[u8]) -> Judged {
             let w = unsafe { knellgable_judge(order.as_ptr(), order.len(), plan.as_ptr(), plan.len()) };
-            Judged { number: w.number, place: narrow(w.place), set: narrow(w.set), grams: narrow(w.grams), time: narrow(w.time) }
+            Judged { number: w.number, place: narrow(w.place), set: narrow(w.set), weight: narrow(w.weight), time: narrow(w.time) }
         }
 
         fn point(&self, order: &[u8], plan: &[u8], dose: usize, tick: u32) -> Drawn {

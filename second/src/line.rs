@@ -21,7 +21,7 @@ pub struct Point {
 /// Units of the dose's slots before a tick.
 pub fn units_before(slots: &[Slot], dose: usize, tick: u32) -> u64 {
     let own = slots.iter().filter(|s| s.dose as usize == dose);
-    own.map(|s| (u64::from(tick) * u64::from(s.grams)).clamp(s.from(), s.to()) - s.from()).sum()
+    own.map(|s| (u64::from(tick) * u64::from(s.weight)).clamp(s.from(), s.to()) - s.from()).sum()
 }
 
 /// The class of a dose, by its place in the list.

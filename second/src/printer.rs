@@ -11,7 +11,7 @@ const READ: usize = 1_601;
 
 fn refusal(j: &Judged) -> String {
     match j.number {
-        9 => format!("refused 9 {} {} {} {}\n", j.place, j.set, j.grams, j.time),
+        9 => format!("refused 9 {} {} {} {}\n", j.place, j.set, j.weight, j.time),
         n => format!("refused {n} {}\n", j.place),
     }
 }
@@ -27,7 +27,7 @@ pub fn plan(order: &[u8]) -> String {
 pub fn lines(house: &House, slots: &[Slot]) -> String {
     let mut text = String::new();
     for (i, c) in house.classes.iter().enumerate() {
-        writeln!(text, "class {} {} {} {}", i + 1, c.set.count_ones(), c.grams, c.time).unwrap();
+        writeln!(text, "class {} {} {} {}", i + 1, c.set.count_ones(), c.weight, c.time).unwrap();
     }
     for s in slots {
         let (a, b) = (s.start, s.end);
@@ -41,7 +41,7 @@ pub fn lines(house: &House, slots: &[Slot]) -> String {
 pub fn classes(order: &[u8]) -> String {
     match accept(order) {
         Err(j) => refusal(&j),
-        Ok(house) => house.classes.iter().map(|c| format!("class {} {} {}\n", c.set, c.grams, c.time)).collect(),
+        Ok(house) => house.classes.iter().map(|c| format!("class {} {} {}\n", c.set, c.weight, c.time)).collect(),
     }
 }
 
@@ -62,7 +62,7 @@ pub fn case(order: &[u8], plan: Option<&[u8]>) {
     }
     for (i, c) in house.classes.iter().enumerate() {
         let doses: Vec<usize> = (0..o.doses.len()).filter(|k| c.set >> k & 1 == 1).collect();
-        println!("class {}: {}/{}, doses {doses:?}, reserved {:?}", i + 1, c.grams, c.time, c.reserved);
+        println!("class {}: {}/{}, doses {doses:?}, reserved {:?}", i + 1, c.weight, c.time, c.reserved);
     }
     let own = house.plan(None);
     let plan = plan.unwrap_or(&own);

@@ -10,7 +10,7 @@ fn refusal(number: u32, place: usize) -> Judged {
     Judged { number, place: place as u32, ..Judged::default() }
 }
 
-const TOO_SHORT: Planned = Planned { number: 1, place: 0, set: 0, grams: 0, time: 0, classes: 0, slots: 0 };
+const TOO_SHORT: Planned = Planned { number: 1, place: 0, set: 0, weight: 0, time: 0, classes: 0, slots: 0 };
 
 /// F and so many doses of a bay each, one after the other.
 fn row(doses: u32) -> Vec<u8> {
@@ -52,12 +52,12 @@ pub fn alone(c: &mut Checks) {
     }
     let three = one_bay(&[(0, 4, 10), (4, 8, 10), (7, 9, 10), (0, 9, 10)]);
     c.refused("8: the first D that overlaps an earlier one", &write(&three, 1), refusal(8, 3));
-    c.refused("9: P8", &write(&p1((3, 1)), 1), Judged { number: 9, place: 0, set: 2, grams: 16, time: 4 });
-    c.refused("9: P9", &write(&p9(), 1), Judged { number: 9, place: 0, set: 1, grams: 10, time: 3 });
+    c.refused("9: P8", &write(&p1((3, 1)), 1), Judged { number: 9, place: 0, set: 2, weight: 16, time: 4 });
+    c.refused("9: P9", &write(&p9(), 1), Judged { number: 9, place: 0, set: 1, weight: 10, time: 3 });
     c.refused(
         "9: the rate above by 1 part in 1,000,000",
         &write(&p1((999_999, 250_000)), 0),
-        Judged { number: 9, place: 0, set: 2, grams: 16, time: 4 },
+        Judged { number: 9, place: 0, set: 2, weight: 16, time: 4 },
     );
     c.planned("9: the top rate itself is no refusal", &write(&p1((1_000_000, 250_000)), 0), 2, 2);
 }

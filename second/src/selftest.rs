@@ -64,7 +64,7 @@ fn plans(cases: u64, seed: u64) -> bool {
         let (order, _) = styles::valid(&mut r);
         let Ok(house) = accept(&write(&order, 0)) else { continue };
         // With shares that meet every need, falling rates make these sets the classes.
-        if !house.classes.windows(2).all(|w| w[1].grams * w[0].time < w[0].grams * w[1].time) {
+        if !house.classes.windows(2).all(|w| w[1].weight * w[0].time < w[0].weight * w[1].time) {
             return fail("class rates do not fall", case, &order);
         }
         let shapes = shapes(&house, &mut r);

@@ -27,9 +27,9 @@ pub fn shares(order: &Order, spans: &Intervals, class: &Class, chance: Option<&m
     for k in doses {
         net.edge(source, k, u64::from(order.doses[k].grams) * class.time);
     }
-    let edges: Vec<usize> = cells.iter().map(|&(k, j)| net.edge(k, n + j, spans.length(j) * class.grams)).collect();
+    let edges: Vec<usize> = cells.iter().map(|&(k, j)| net.edge(k, n + j, spans.length(j) * class.weight)).collect();
     for j in 0..m {
-        net.edge(n + j, sink, spans.length(j) * u64::from(class.reserved[j]) * class.grams);
+        net.edge(n + j, sink, spans.length(j) * u64::from(class.reserved[j]) * class.weight);
     }
     if net.run(source, sink) != needs {
         return (None, net.chains);

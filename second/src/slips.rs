@@ -1,7 +1,7 @@
 //! Test builds only: errors that look right, each built into a copy of the planner, the judge or the line.
 
 use crate::answers::{drawn, not_drawn, planned, refused, House, OWN, PLAN_BUFFER};
-use crate::classes::{by_flow, grams_of, open_time, too_fast, Class, FEW};
+use crate::classes::{by_flow, open_time, too_fast, weight_of, Class, FEW};
 use crate::compare::{Difference, USUAL};
 use crate::flow::Network;
 use crate::intervals::Intervals;
@@ -78,7 +78,7 @@ impl Slipped {
         let (mut best, mut found) = ((0, 1), 0);
         let mut set = rest;
         while set != 0 {
-            let rate = (grams_of(order, set), open_time(spans, free, set));
+            let rate = (weight_of(order, set), open_time(spans, free, set));
             if self.above(rate, best) || found == 0 {
                 (best, found) = (rate, set);
             } else if !self.above(best, rate) {
@@ -103,7 +103,7 @@ impl Slipped {
             let set = self.next(order, spans, &free, rest);
             let reserved: Vec<u32> = (0..free.len()).map(|j| (spans.active[j] & set).count_ones().min(free[j])).collect();
             used.iter_mut().zip(&reserved).for_each(|(u, r)| *u = (*u + r).min(order.fans));
-            classes.push(Class { set, grams: grams_of(order, set), time: open_time(spans, &free, set), reserved });
+            classes.push(Class { set, weight: weight_of(order, set), time: open_time(spans, &free, set), reserved });
             rest &= !set;
         }
         classes
@@ -114,11 +114,11 @@ impl Slipped {
         let spans = Intervals::of(&order);
         let classes = self.classes(&order, &spans);
         let over = |c: &Class| match self.0 {
-            WholeDivisionTop => c.grams / c.time > u64::from(order.top_grams / order.top_seconds),
+            WholeDivisionTop => c.weight / c.time > u64::from(order.top_grams / order.top_seconds),
             _ => too_fast(&order, c),
         };
         match classes.first().filter(|c| over(c)) {
-            Some(c) => Err(Judged { number: 9, place: 0, set: c.set, grams: c.grams as u32, time: c.time as u32 }),
+            Some(c) => Err(Judged { number: 9, place: 0, set: c.set, weight: c.weight as u32, time: c.time as u32 }),
             None => Ok(House { order, spans, classes }),
         }
     }
@@ -136,7 +136,7 @@ impl Slipped {
             }
         }
         for j in 0..m {
-            net.edge(n + j, n + m + 1, house.spans.length(j) * u64::from(class.reserved[j]) * class.grams);
+            net.edge(n + j, n + m + 1, house.spans.length(j) * u64::from(class.reserved[j]) * class.weight);
         }
         net.run(n + m, n + m + 1);
         cells.iter().for_each(|&(k, j, e)| table[j][k] = net.moved(e));
@@ -184,7 +184,7 @@ impl Slipped {
             }
             RoundedSlots => {
                 let time = house.classes[class_of(&house.classes, dose)].time;
-                let part = |s: &Slot| ((u64::from(tick) * u64::from(s.grams)).clamp(s.from(), s.to()) - s.from()) / time;
+                let part = |s: &Slot| ((u64::from(tick) * u64::from(s.weight)).clamp(s.from(), s.to()) - s.from()) / time;
                 p.amount = own.map(part).sum::<u64>() as u32;
             }
             DosingAtEnd if p.state == State::Idle => {
@@ -230,8 +230,8 @@ impl Peer for Slipped {
         let slots = self.slots(&house);
         if self.0 == Reduced {
             for c in house.classes.iter_mut() {
-                let common = (1..=c.time).rev().find(|x| c.time % x == 0 && c.grams % x == 0).unwrap_or(1);
-                (c.grams, c.time) = (c.grams / common, c.time / common);
+                let common = (1..=c.time).rev().find(|x| c.time % x == 0 && c.weight % x == 0).unwrap_or(1);
+                (c.weight, c.time) = (c.weight / common, c.time / common);
             }
         }
         let bytes = plan_bytes(&house.classes, &slots);

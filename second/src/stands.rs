@@ -36,7 +36,7 @@ pub fn slot_of(r: &[u8]) -> Slot {
         dose: number(r, 2, 2),
         start: (number(r, 4, 4), number(r, 8, 4)),
         end: (number(r, 12, 4), number(r, 16, 4)),
-        grams: number(r, 20, 4),
+        weight: number(r, 20, 4),
         time: number(r, 24, 4),
         class: number(r, 28, 1),
     }
@@ -57,13 +57,13 @@ fn alone(order: &Order, spans: &Intervals, classes: &[Class], s: &Slot) -> Resul
     if s.dose as usize >= order.doses.len() || class.set >> s.dose & 1 == 0 {
         return Err("dose not of class");
     }
-    if u64::from(s.grams) != class.grams || u64::from(s.time) != class.time {
+    if u64::from(s.weight) != class.weight || u64::from(s.time) != class.time {
         return Err("W or P");
     }
     if s.fan == 0 || s.fan > order.fans {
         return Err("no such fan");
     }
-    if s.start.1 >= s.grams || s.end.1 >= s.grams {
+    if s.start.1 >= s.weight || s.end.1 >= s.weight {
         return Err("part not below W");
     }
     if s.start >= s.end {
@@ -106,7 +106,7 @@ pub fn stands(order: &Order, spans: &Intervals, classes: &[Class], plan: &[u8]) 
                 let class = classes.get(seen).ok_or("class record")?;
                 seen += 1;
                 let given = (number(r, 1, 1), number(r, 2, 2), u64::from(number(r, 4, 4)), u64::from(number(r, 8, 4)));
-                if given != (seen as u32, class.set.count_ones(), class.grams, class.time) {
+                if given != (seen as u32, class.set.count_ones(), class.weight, class.time) {
                     return Err("class record");
                 }
             }
@@ -117,12 +117,12 @@ pub fn stands(order: &Order, spans: &Intervals, classes: &[Class], plan: &[u8]) 
                 let s = slot_of(r);
                 let j = alone(order, spans, classes, &s)?;
                 if let Some((i, b)) = last {
-                    let start = compare(b.start, b.grams, s.start, s.grams);
+                    let start = compare(b.start, b.weight, s.start, s.weight);
                     if (i, b.fan).cmp(&(j, s.fan)).then(start) == Ordering::Greater {
                         return Err("slots out of order");
                     }
                     // In this order only neighbours on one fan of one interval can overlap.
-                    if (i, b.fan) == (j, s.fan) && compare(b.end, b.grams, s.start, s.grams) == Ordering::Greater {
+                    if (i, b.fan) == (j, s.fan) && compare(b.end, b.weight, s.start, s.weight) == Ordering::Greater {
                         return Err("overlap of a fan");
                     }
                 }

@@ -161,7 +161,7 @@ fn set_top(order: &mut Order, r: &mut Random) {
         return;
     }
     let Some(first) = classes::first(order, &Intervals::of(order)) else { return };
-    let (w, p) = (first.grams, first.time);
+    let (w, p) = (first.weight, first.time);
     let scale = (1..=24).find(|s| w % s == 0 && p % s == 0 && w / s <= 1_000_000 && p / s <= 1_000_000);
     let seconds = match scale {
         Some(s) if how == 5 => p / s,

@@ -10,7 +10,7 @@ use crate::stands::compare;
 pub fn sorted(house: &House, mut slots: Vec<Slot>) -> Vec<Slot> {
     slots.sort_by(|a, b| {
         let place = |s: &Slot| (house.spans.at(s.start.0), s.fan);
-        place(a).cmp(&place(b)).then_with(|| compare(a.start, a.grams, b.start, b.grams))
+        place(a).cmp(&place(b)).then_with(|| compare(a.start, a.weight, b.start, b.weight))
     });
     slots
 }
@@ -54,7 +54,7 @@ pub fn move_blocks(house: &House, slots: &[Slot], r: &mut Random) -> Vec<Slot> {
             let to = if b == blocks { start + length } else { from + size };
             r.shuffle(&mut fans);
             for s in slots.iter().filter(|s| house.spans.at(s.start.0) == Some(j)) {
-                let w = u64::from(s.grams);
+                let w = u64::from(s.weight);
                 let (x, y) = (s.from().max(u64::from(from) * w), s.to().min(u64::from(to) * w));
                 if x < y {
                     let base = u64::from(start) * w + u64::from(place * size) * w;

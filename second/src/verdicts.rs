@@ -107,12 +107,12 @@ fn records(c: &mut Checks, six: &Bench) {
 /// Fields of a slot. P6: dose 0 on fan 1 in [0,2), dose 1 on fan 2 in [0,2) and on fan 1 in [2,4).
 fn fields(c: &mut Checks, six: &Bench) {
     let [a, b, d] = [six.slots[0], six.slots[1], six.slots[2]];
-    let foreign = Slot { class: 1, grams: 8, time: 2, end: (3, 0), ..d };
+    let foreign = Slot { class: 1, weight: 8, time: 2, end: (3, 0), ..d };
     six.wrong_slots(c, "dose of another class", "dose not of class", &[a, b, foreign]);
     six.wrong_slots(c, "a slot of dose 2", "dose not of class", &[a, b, d, Slot { fan: 2, dose: 2, ..d }]);
     six.wrong_slots(c, "class 0", "no such class", &[a, b, Slot { class: 0, ..d }]);
     six.wrong_slots(c, "class 3", "no such class", &[a, b, Slot { class: 3, ..d }]);
-    six.wrong_slots(c, "another W, as many units", "W or P", &[a, b, Slot { grams: 8, end: (3, 0), ..d }]);
+    six.wrong_slots(c, "another W, as many units", "W or P", &[a, b, Slot { weight: 8, end: (3, 0), ..d }]);
     six.wrong_slots(c, "another P", "W or P", &[a, b, Slot { time: 5, ..d }]);
     six.wrong_slots(c, "fan 0", "no such fan", &[a, b, Slot { fan: 0, ..d }]);
     six.wrong_slots(c, "fan 3 of 2", "no such fan", &[a, Slot { fan: 3, ..b }, d]);

@@ -31,11 +31,11 @@ module _ (S : Setting) (row : Row) (rest : Doses) {c c′ : Class} {x x′ : Lis
       (λ h. a .measured .fans j h ∙ openFans-alike S row row _ _ j refl same-set ∙ sym (b .measured .fans j h))
       (λ g. a .measured .no-fans j g q ∙ sym (b .measured .no-fans j g q)))
 
-  one-grams : c .grams ≡ c′ .grams
-  one-grams = a .measured .grams ∙ weight-alike (S .doses) (S .grams) _ _ same-set ∙ sym (b .measured .grams)
+  one-weight : c .weight ≡ c′ .weight
+  one-weight = a .measured .weight ∙ weight-alike (S .doses) (S .grams) _ _ same-set ∙ sym (b .measured .weight)
 
   one-time : c .time ≡ c′ .time
   one-time = a .measured .time ∙ P-alike S row _ _ same-set ∙ sym (b .measured .time)
 
   pub class-one : c ≡ c′
-  class-one = λ i. record { members = one-set i; grams = one-grams i; time = one-time i; reserved = one-row i }
+  class-one = λ i. record { members = one-set i; weight = one-weight i; time = one-time i; reserved = one-row i }

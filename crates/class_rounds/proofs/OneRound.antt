@@ -50,11 +50,11 @@ module _ (n J : ℕ) (release deadline instants : List ℕ) (active : List Bool)
       doses = arrays .few-doses;
       intervals = arrays .few-intervals;
       room = λ k j l m. room-at k j (omega (arith, arrays .few-doses)) (omega (arith, arrays .few-intervals))
-          ∙ ap (λ (y : ℕ). on (A k && activeOf active k j) (getD lens j 0 * y)) (known .grams);
+          ∙ ap (λ (y : ℕ). on (A k && activeOf active k j) (getD lens j 0 * y)) (known .weight);
       no-dose = λ k j g l q. no-room k j l q (arrays .no-dose k j g l q);
       no-interval = λ k j l g q. no-room k j l q (arrays .no-interval k j l g q);
       hold = λ j l. hh j (omega (arith, arrays .few-intervals)) ∙ ap (λ (y : ℕ). y * (getD lens j 0 * w)) (known .fans j l)
-          ∙ ap (λ (y : ℕ). openFans S (rowOf free) A j * (getD lens j 0 * y)) (known .grams);
+          ∙ ap (λ (y : ℕ). openFans S (rowOf free) A j * (getD lens j 0 * y)) (known .weight);
       need = λ k l. hn k (omega (arith, arrays .few-doses)) ∙ ap (λ (y : ℕ). on (A k) (getD grams k 0 * y)) (known .time);
       no-need = λ k g l. hn k l ∙ on-zero (A k) (ap (λ (y : ℕ). y * p) (arrays .no-grams k g) ∙ omega arith);
     }

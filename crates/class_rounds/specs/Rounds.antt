@@ -66,6 +66,6 @@ pub record Chosen (S : Setting) (row : Row) (rest A : Doses) (x : List ℕ) : Ty
 
 -- the next class c of the remaining doses: its doses, W and P, and the fans that it reserves; x are its shares
 pub record NextOf (S : Setting) (row : Row) (rest : Doses) (c : Class) (x : List ℕ) : Type 0 where
-  pub measured : Measured S row (setOf (c .members)) (c .grams) (c .time) (c .reserved)
+  pub measured : Measured S row (setOf (c .members)) (c .weight) (c .time) (c .reserved)
   pub small : Below mostDoses (c .reserved)
   pub chosen : Chosen S row rest (setOf (c .members)) x

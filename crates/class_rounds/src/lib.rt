@@ -1,7 +1,7 @@
 // The rounds that find the next class, and the shares that a candidate asks for (document 01, "From doses to classes", "From classes to slots").
 use measure::fan_time;
-use measure::grams_of;
 use measure::open_fans;
+use measure::weight_of;
 use steps::both;
 use steps::limits::CELLS;
 use steps::limits::MOST_DOSES;
@@ -14,7 +14,7 @@ ghost use mathlib.Core.Path.{_≡_};
 ghost use mathlib.Core.Bool.{false, _&&_};
 ghost use Prim.Native.Nat.{ℕ, _+_, _*_, _<_, _≤_};
 ghost use lib.ListN.{length, getD};
-ghost use Rattle.model.specs.Limits.{cells, mostClassGrams, mostDoses, mostIntervals, week};
+ghost use Rattle.model.specs.Limits.{cells, mostWeight, mostDoses, mostIntervals, week};
 ghost use Rattle.model.specs.Sets.{Nonempty};
 ghost use Rattle.order_arrays.specs.Arrays.{setOf, rowOf, Below, settingFrom, OrderArrays};
 ghost use Rattle.measure.specs.Measure.{Measured};
@@ -29,7 +29,7 @@ fn lay_row(
     k: usize,
     w: u64,
 )
-    requires { ⌜ (length (now rooms) ≡ cells) × Below week (now lens) × (w ≤ mostClassGrams) × (k < mostDoses) × RoomsTo (now active) (now lens) set w (k * mostIntervals) (now rooms) ⌝ }
+    requires { ⌜ (length (now rooms) ≡ cells) × Below week (now lens) × (w ≤ mostWeight) × (k < mostDoses) × RoomsTo (now active) (now lens) set w (k * mostIntervals) (now rooms) ⌝ }
     ensures { λ _. ⌜ (length (now (rooms .exit)) ≡ cells) × RoomsTo (now (active .entry)) (now (lens .entry)) set w (k * mostIntervals + mostIntervals) (now (rooms .exit)) ⌝ }
 {
     let mut j = 0;
@@ -48,7 +48,7 @@ fn lay_rooms(
     set: [bool; MOST_DOSES],
     w: u64,
 )
-    requires { ⌜ (length (now rooms) ≡ cells) × Below week (now lens) × (w ≤ mostClassGrams) ⌝ }
+    requires { ⌜ (length (now rooms) ≡ cells) × Below week (now lens) × (w ≤ mostWeight) ⌝ }
     ensures { λ _. ⌜ (length (now (rooms .exit)) ≡ cells) × Rooms (now (active .entry)) (now (lens .entry)) set w (now (rooms .exit)) ⌝ }
 {
     let mut k = 0;
@@ -64,7 +64,7 @@ fn holds_of(
     reserved: [u64; MOST_INTERVALS],
     w: u64,
 ) -> [u64; MOST_INTERVALS]
-    requires { ⌜ Below week (now lens) × Below mostDoses reserved × (w ≤ mostClassGrams) ⌝ }
+    requires { ⌜ Below week (now lens) × Below mostDoses reserved × (w ≤ mostWeight) ⌝ }
     ensures { λ r. ⌜ Holds (now (lens .entry)) reserved w r ⌝ }
 {
     let mut holds = [0u64; MOST_INTERVALS];
@@ -107,7 +107,7 @@ fn dead_part(dead: [bool; MOST_MARKS], set: [bool; MOST_DOSES]) -> [bool; MOST_D
 struct Round {
     met: bool,
     part: [bool; MOST_DOSES],
-    grams: u64,
+    weight: u64,
     time: u64,
     reserved: [u64; MOST_INTERVALS],
 }
@@ -128,9 +128,9 @@ fn try_candidate(
     sequence: [usize; MOST_DOSES],
 ) -> Round
     requires { ⌜ (length (now x) ≡ cells) × OrderArrays doses intervals (now release) (now deadline) (now instants) (now active) (now lens) (now grams) ⌝ }
-    ensures { λ r. ⌜ Measured (settingFrom doses intervals (now (active .entry)) (now (lens .entry)) (now (grams .entry))) (rowOf free) (setOf set) (r .grams) (r .time) (r .reserved) × Below mostDoses (r .reserved) × Tried (settingFrom doses intervals (now (active .entry)) (now (lens .entry)) (now (grams .entry))) (rowOf free) (setOf set) (now (x .exit)) (r .met) (setOf (r .part)) ⌝ }
+    ensures { λ r. ⌜ Measured (settingFrom doses intervals (now (active .entry)) (now (lens .entry)) (now (grams .entry))) (rowOf free) (setOf set) (r .weight) (r .time) (r .reserved) × Below mostDoses (r .reserved) × Tried (settingFrom doses intervals (now (active .entry)) (now (lens .entry)) (now (grams .entry))) (rowOf free) (setOf set) (now (x .exit)) (r .met) (setOf (r .part)) ⌝ }
 {
-    let w = grams_of(grams, doses, set);
+    let w = weight_of(grams, doses, set);
     let reserved = open_fans(release, deadline, instants, doses, intervals, set, free);
     let p = fan_time(instants, intervals, reserved);
     let mut rooms = [0u64; CELLS];
@@ -143,7 +143,7 @@ fn try_candidate(
     Round {
         met,
         part,
-        grams: w,
+        weight: w,
         time: p,
         reserved,
     }
@@ -152,7 +152,7 @@ fn try_candidate(
 // The next class: its doses, W and P, and the fans that it reserves.
 pub struct Class {
     pub members: [bool; MOST_DOSES],
-    pub grams: u64,
+    pub weight: u64,
     pub time: u64,
     pub reserved: [u64; MOST_INTERVALS],
 }
@@ -197,7 +197,7 @@ pub fn next_class(
             let reserved = round.reserved;
             return Class {
                 members: set,
-                grams: round.grams,
+                weight: round.weight,
                 time: round.time,
                 reserved,
             };

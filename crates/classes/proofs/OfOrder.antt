@@ -9,7 +9,7 @@ use Rattle.model.specs.Sets.{Doses}
 use Rattle.model.specs.Orders as model
 use Rattle.model.specs.Classes.{Setting, Row, free}
 use Rattle.model.specs.Intervals.{settingOf, fansPresent}
-use Rattle.model.proofs.Same.{Agree, grams-same, fans-same, class-time-same, valid-same, free-same, classes-same}
+use Rattle.model.proofs.Same.{Agree, W-same, fans-same, class-time-same, valid-same, free-same, classes-same}
 use Rattle.model.proofs.Orders.{Fit}
 use Rattle.model.proofs.Intervals.{few-intervals}
 use Rattle.order_arrays.specs.Arrays.{settingFrom}
@@ -43,7 +43,7 @@ module _ (o : model.Order) (fit : Fit o) (n J : ℕ) (active : List Bool) (lens 
   classes-found : ClassesOf o t
   classes-found = record {
     classes = classes-same S (settingOf o) a F (fansPresent o) (λ j q. ef) C (t .class) (so-far-end n J active lens grams F few-doses few-spans t table shares so e);
-    grams = λ i q. so .grams i q ∙ grams-same S (settingOf o) a (C i) (C i) (λ k l. refl);
+    weight = λ i q. so .weight i q ∙ W-same S (settingOf o) a (C i) (C i) (λ k l. refl);
     time = λ i q. so .time i q ∙ class-time-same S (settingOf o) a F (fansPresent o) (λ j m. ef) C i;
     classed = e ∙ a .doses;
     no-rest = λ k l. none-remains n J active lens grams F few-doses few-spans t table shares so e k (omega (arith, a .doses));

@@ -30,20 +30,20 @@ use Rattle.classes.specs.Answer.{ClassesOf, SharesOf, nine, AgainstTop}
 pub record Sized (t : Tally) : Type 0 where
   pub remaining : length (t .remaining) ≡ mostDoses
   pub numbers : length (t .numbers) ≡ mostDoses
-  pub grams : length (t .grams) ≡ mostDoses
+  pub weight : length (t .weight) ≡ mostDoses
   pub time : length (t .time) ≡ mostDoses
 
 -- tallies that agree in every place are one
 module _ {t t′ : Tally} (l : Sized t) (l′ : Sized t′) where
   tally-one : t .class ≡ t′ .class → t .classed ≡ t′ .classed → ((k : ℕ) → k < mostDoses → getD (t .remaining) k false ≡ getD (t′ .remaining) k false)
-      → ((k : ℕ) → k < mostDoses → getD (t .numbers) k 0 ≡ getD (t′ .numbers) k 0) → ((i : ℕ) → i < mostDoses → getD (t .grams) i 0 ≡ getD (t′ .grams) i 0)
+      → ((k : ℕ) → k < mostDoses → getD (t .numbers) k 0 ≡ getD (t′ .numbers) k 0) → ((i : ℕ) → i < mostDoses → getD (t .weight) i 0 ≡ getD (t′ .weight) i 0)
       → ((i : ℕ) → i < mostDoses → getD (t .time) i 0 ≡ getD (t′ .time) i 0) → t ≡ t′
   tally-one c d r n g p =
       let r′ = places-one false mostDoses (l .remaining) (l′ .remaining) r in
       let n′ = places-one 0 mostDoses (l .numbers) (l′ .numbers) n in
-      let g′ = places-one 0 mostDoses (l .grams) (l′ .grams) g in
+      let g′ = places-one 0 mostDoses (l .weight) (l′ .weight) g in
       let p′ = places-one 0 mostDoses (l .time) (l′ .time) p in
-      λ i. record { remaining = r′ i; class = c i; classed = d i; numbers = n′ i; grams = g′ i; time = p′ i }
+      λ i. record { remaining = r′ i; class = c i; classed = d i; numbers = n′ i; weight = g′ i; time = p′ i }
 
   -- two answers of `Tally::start`
   pub start-one : (n : ℕ) → Start n t → Start n t′ → t ≡ t′
@@ -52,7 +52,7 @@ module _ {t t′ : Tally} (l : Sized t) (l′ : Sized t′) where
       (a .classed ∙ sym (b .classed))
       (λ k q. a .remaining k q ∙ sym (b .remaining k q))
       (λ k q. ap (λ (m : List ℕ). getD m k 0) (a .numbers ∙ sym (b .numbers)))
-      (λ i q. ap (λ (m : List ℕ). getD m i 0) (a .grams ∙ sym (b .grams)))
+      (λ i q. ap (λ (m : List ℕ). getD m i 0) (a .weight ∙ sym (b .weight)))
       (λ i q. ap (λ (m : List ℕ). getD m i 0) (a .time ∙ sym (b .time)))
 
   -- two answers of `Tally::after`
@@ -62,7 +62,7 @@ module _ {t t′ : Tally} (l : Sized t) (l′ : Sized t′) where
       (a .classed ∙ sym (b .classed))
       (λ k q. a .remaining k q ∙ sym (b .remaining k q))
       (λ k q. a .numbers k q ∙ sym (b .numbers k q))
-      (λ i q. alike i (before .class) (λ e. rw e (a .grams ∙ sym (b .grams))) (λ e. a .other-grams i e ∙ sym (b .other-grams i e)))
+      (λ i q. alike i (before .class) (λ e. rw e (a .weight ∙ sym (b .weight))) (λ e. a .other-weight i e ∙ sym (b .other-weight i e)))
       (λ i q. alike i (before .class) (λ e. rw e (a .time ∙ sym (b .time))) (λ e. a .other-time i e ∙ sym (b .other-time i e)))
 
 -- 24 rows of 47 places
@@ -95,8 +95,8 @@ module _ (o : Order) where
         eqb→eq (getD (t .numbers) k 0) (r .0 + 1) (r .2)
         ∙ sym (eqb→eq (getD (t′ .numbers) k 0) (r .0 + 1) (alike-sub (S .doses) (classesIn t (r .0)) (classesIn t′ (r .0)) (one-class (r .0) (r .1)) k q (r .2)))
 
-    pub one-grams : (i : ℕ) → i < t .class → getD (t .grams) i 0 ≡ getD (t′ .grams) i 0
-    one-grams i q = c .grams i q ∙ weight-alike (S .doses) (S .grams) _ _ (one-class i q) ∙ sym (c′ .grams i (omega (arith, one-count)))
+    pub one-weight : (i : ℕ) → i < t .class → getD (t .weight) i 0 ≡ getD (t′ .weight) i 0
+    one-weight i q = c .weight i q ∙ weight-alike (S .doses) (S .grams) _ _ (one-class i q) ∙ sym (c′ .weight i (omega (arith, one-count)))
 
     pub one-time : (i : ℕ) → i < t .class → getD (t .time) i 0 ≡ getD (t′ .time) i 0
     one-time i q =
@@ -126,7 +126,7 @@ module _ (o : Order) where
             (c .classed ∙ sym (c′ .classed))
             (λ k q. below-or k (S .doses) (λ h. c .no-rest k h ∙ sym (c′ .no-rest k h)) (λ g. s .past .no-rest k g q ∙ sym (s′ .past .no-rest k g q)))
             (λ k q. below-or k (S .doses) (one-number k) (λ g. s .past .no-number k g q ∙ sym (s′ .past .no-number k g q)))
-            (λ i q. below-or i (t .class) (one-grams i) (λ g. s .past .no-grams i g ∙ sym (s′ .past .no-grams i (omega (arith, one-count)))))
+            (λ i q. below-or i (t .class) (one-weight i) (λ g. s .past .no-weight i g ∙ sym (s′ .past .no-weight i (omega (arith, one-count)))))
             (λ i q. below-or i (t .class) (one-time i) (λ g. s .past .no-time i g ∙ sym (s′ .past .no-time i (omega (arith, one-count))))),
         table-one m m′ (λ i j q r. one-row i j r),
       )
@@ -139,7 +139,7 @@ module _ (o : Order) where
       rw (weight-alike (S .doses) (λ k. 2 ^ k) A B e, weight-alike (S .doses) (S .grams) A B e, P-alike S F A B e)
 
   made : Bool → ℕ → ℕ → ℕ → TooFast
-  made above set grams time = record { above = above; set = set; grams = grams; time = time }
+  made above set weight time = record { above = above; set = set; weight = weight; time = time }
 
   same-made : {a a′ : Bool} {s s′ g g′ p p′ : ℕ} → a ≡ a′ → s ≡ s′ → g ≡ g′ → p ≡ p′ → made a s g p ≡ made a′ s′ g′ p′
   same-made e f h q = rw (e, f, h, q)
@@ -147,7 +147,7 @@ module _ (o : Order) where
   same-parts : (r r′ : TooFast) → r .above ≡ r′ .above → nine r ≡ nine r′ → r ≡ r′
   unfolding made
   same-parts r r′ e f =
-      same-made {a = r .above} {a′ = r′ .above} e (ap (λ (a : Answer). a .set) f) (ap (λ (a : Answer). a .grams) f) (ap (λ (a : Answer). a .time) f)
+      same-made {a = r .above} {a′ = r′ .above} e (ap (λ (a : Answer). a .set) f) (ap (λ (a : Answer). a .weight) f) (ap (λ (a : Answer). a .time) f)
 
   pub one-nine : (r r′ : TooFast) → AgainstTop o r → AgainstTop o r′ → r ≡ r′
   one-nine r r′ a a′ = go (r .above) (r′ .above) refl refl

@@ -227,8 +227,8 @@ module _ (n J : ℕ) (active : List Bool) (lens grams : List ℕ) (F : Row) (few
 
         -- what is worked out for the members is so for the next class, and what was for an earlier class still is
         module _ (l : ℕ) (m : l < i) where
-          grams-below : getD (t′ .grams) l 0 ≡ W S (C′ l)
-          grams-below = after .other-grams l (λ e. omega arith) ∙ so .grams l m ∙ weight-alike n _ (C l) (C′ l) (alike-below l m)
+          weight-below : getD (t′ .weight) l 0 ≡ W S (C′ l)
+          weight-below = after .other-weight l (λ e. omega arith) ∙ so .weight l m ∙ weight-alike n _ (C l) (C′ l) (alike-below l m)
 
           time-below : getD (t′ .time) l 0 ≡ classP S F C′ l
           time-below = after .other-time l (λ e. omega arith) ∙ so .time l m ∙ time-as (free S F C l) (free S F C′ l) (λ j q. free′ l (omega arith) j) (C l) (C′ l) (alike-below l m)
@@ -250,7 +250,7 @@ module _ (n J : ℕ) (active : List Bool) (lens grams : List ℕ) (F : Row) (few
         past′ = record {
           no-rest = λ k g l. after .remaining k l ∙ ap (λ (b : Bool). b && not (getD members k false)) (so .past .no-rest k g l);
           no-number = λ k g l. after .numbers k l ∙ ap (λ (b : Bool). choose b (i + 1) (getD (t .numbers) k 0)) (chosen .past k g l) ∙ so .past .no-number k g l;
-          no-grams = λ l g. after .other-grams l (λ e. omega (arith, after .class)) ∙ so .past .no-grams l (omega (arith, after .class));
+          no-weight = λ l g. after .other-weight l (λ e. omega (arith, after .class)) ∙ so .past .no-weight l (omega (arith, after .class));
           no-time = λ l g. after .other-time l (λ e. omega (arith, after .class)) ∙ so .past .no-time l (omega (arith, after .class));
           no-row = λ l j g. row .others l j (λ e. omega (arith, after .class)) ∙ so .past .no-row l j (omega (arith, after .class));
           no-column = λ l j q g h. each-class (λ l. rowAt table′ l j ≡ 0) (row .own j h ∙ measured .no-fans j g h)
@@ -269,7 +269,7 @@ module _ (n J : ℕ) (active : List Bool) (lens grams : List ℕ) (F : Row) (few
           counted = subst (λ (m : ℕ). size n (remaining C′ m) + t′ .classed ≡ n) (sym next-number) counted′;
           each = omega (arith, so .each, after .class, after .classed, some-size n A (chosen .next .some));
           later = later′;
-          grams = each-class (λ l. getD (t′ .grams) l 0 ≡ W S (C′ l)) (after .grams ∙ measured .grams ∙ weight-alike n _ A (C′ i) alike-here) grams-below;
+          weight = each-class (λ l. getD (t′ .weight) l 0 ≡ W S (C′ l)) (after .weight ∙ measured .weight ∙ weight-alike n _ A (C′ i) alike-here) weight-below;
           time = each-class (λ l. getD (t′ .time) l 0 ≡ classP S F C′ l) (after .time ∙ measured .time ∙ time-as (rowOf free-row) (free S F C′ i) rows′ A (C′ i) alike-here) time-below;
           rows = λ l j q m. each-class (λ l. rowAt table′ l j ≡ reserved S F C′ l j)
               (row .own j (omega arith) ∙ measured .fans j m ∙ fans-as (rowOf free-row) (free S F C′ i) rows′ A (C′ i) alike-here j m)
@@ -289,14 +289,14 @@ module _ (n J : ℕ) (active : List Bool) (lens grams : List ℕ) (F : Row) (few
         ∙ omega (arith, z .classed, weight-alike n (λ k. 1) (remaining (classesIn t) 0) (λ k. true) (λ k q. all-remain (classesIn t) k), size-all n);
     each = omega (arith, z .class);
     later = λ k i q g v. omega (arith, eqb→eq (getD (t .numbers) k 0) (i + 1) v, ap (λ (l : List ℕ). getD l k 0) (z .numbers), all-same {A = ℕ} mostDoses k 0);
-    grams = λ i l. absurd (omega (arith, z .class));
+    weight = λ i l. absurd (omega (arith, z .class));
     time = λ i l. absurd (omega (arith, z .class));
     rows = λ i j l. absurd (omega (arith, z .class));
     valid = λ i l. absurd (omega (arith, z .class));
     past = record {
       no-rest = λ k g l. z .remaining k l ∙ le-ltb k n g;
       no-number = λ k g l. ap (λ (l : List ℕ). getD l k 0) (z .numbers) ∙ all-same {A = ℕ} mostDoses k 0;
-      no-grams = λ i g. ap (λ (l : List ℕ). getD l i 0) (z .grams) ∙ all-same mostDoses i 0;
+      no-weight = λ i g. ap (λ (l : List ℕ). getD l i 0) (z .weight) ∙ all-same mostDoses i 0;
       no-time = λ i g. ap (λ (l : List ℕ). getD l i 0) (z .time) ∙ all-same mostDoses i 0;
       no-row = λ i j g. blank .rows i j;
       no-column = λ i j l g h. blank .rows i j;

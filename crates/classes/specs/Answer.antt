@@ -17,7 +17,7 @@ use Rattle.classes.specs.Phase.{rowAt, classesIn, sharesIn, Past}
 -- the tally has the order's classes, their W and P, and no dose remains
 pub record ClassesOf (o : Order) (t : Tally) : Type 0 where
   pub classes : Classes (settingOf o) (fansPresent o) (t .class) (classesIn t)
-  pub grams : (i : ℕ) → i < t .class → getD (t .grams) i 0 ≡ W (settingOf o) (classesIn t i)
+  pub weight : (i : ℕ) → i < t .class → getD (t .weight) i 0 ≡ W (settingOf o) (classesIn t i)
   pub time : (i : ℕ) → i < t .class → getD (t .time) i 0 ≡ classP (settingOf o) (fansPresent o) (classesIn t) i
   pub classed : t .classed ≡ settingOf o .doses
   pub no-rest : (k : ℕ) → k < settingOf o .doses → getD (t .remaining) k false ≡ false
@@ -30,11 +30,11 @@ pub record SharesOf (o : Order) (t : Tally) (table : List (List ℕ)) (shares : 
 
 -- the first class is not above the top rate, or there is none: "Fields not meant are 0"
 abbrev pub notAbove : TooFast
-notAbove = record { above = false; set = 0; grams = 0; time = 0 }
+notAbove = record { above = false; set = 0; weight = 0; time = 0 }
 
 -- refusal 9, as document 01 has it
 abbrev pub nine : TooFast → Answer
-nine r = record { number = 9; place = 0; set = r .set; grams = r .grams; time = r .time }
+nine r = record { number = 9; place = 0; set = r .set; weight = r .weight; time = r .time }
 
 -- r says whether the order's first class is above the top rate
 pub record AgainstTop (o : Order) (r : TooFast) : Type 0 where

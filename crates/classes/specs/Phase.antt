@@ -46,7 +46,7 @@ pub record Start (n : ℕ) (t : Tally) : Type 0 where
   pub classed : t .classed ≡ 0
   pub remaining : (k : ℕ) → k < mostDoses → getD (t .remaining) k false ≡ ltb k n
   pub numbers : t .numbers ≡ replicate mostDoses 0
-  pub grams : t .grams ≡ replicate mostDoses 0
+  pub weight : t .weight ≡ replicate mostDoses 0
   pub time : t .time ≡ replicate mostDoses 0
 
 -- no fan is reserved and no share is given
@@ -60,9 +60,9 @@ pub record After (n : ℕ) (members : List Bool) (w p : ℕ) (t r : Tally) : Typ
   pub classed : r .classed ≡ t .classed + size n (setOf members)
   pub remaining : (k : ℕ) → k < mostDoses → getD (r .remaining) k false ≡ (getD (t .remaining) k false && not (getD members k false))
   pub numbers : (k : ℕ) → k < mostDoses → getD (r .numbers) k 0 ≡ choose (getD members k false) (t .class + 1) (getD (t .numbers) k 0)
-  pub grams : getD (r .grams) (t .class) 0 ≡ w
+  pub weight : getD (r .weight) (t .class) 0 ≡ w
   pub time : getD (r .time) (t .class) 0 ≡ p
-  pub other-grams : (i : ℕ) → i ≢ t .class → getD (r .grams) i 0 ≡ getD (t .grams) i 0
+  pub other-weight : (i : ℕ) → i ≢ t .class → getD (r .weight) i 0 ≡ getD (t .weight) i 0
   pub other-time : (i : ℕ) → i ≢ t .class → getD (r .time) i 0 ≡ getD (t .time) i 0
 
 -- the shares of the members are those of x, and the others as before
@@ -73,7 +73,7 @@ KeptShares members x before after = (i : ℕ) → i < cells → getD after i 0 �
 pub record Past (n J : ℕ) (t : Tally) (table : List (List ℕ)) (shares : List ℕ) : Type 0 where
   pub no-rest : (k : ℕ) → n ≤ k → k < mostDoses → getD (t .remaining) k false ≡ false
   pub no-number : (k : ℕ) → n ≤ k → k < mostDoses → getD (t .numbers) k 0 ≡ 0
-  pub no-grams : (i : ℕ) → t .class ≤ i → getD (t .grams) i 0 ≡ 0
+  pub no-weight : (i : ℕ) → t .class ≤ i → getD (t .weight) i 0 ≡ 0
   pub no-time : (i : ℕ) → t .class ≤ i → getD (t .time) i 0 ≡ 0
   pub no-row : (i j : ℕ) → t .class ≤ i → rowAt table i j ≡ 0
   pub no-column : (i j : ℕ) → i < t .class → J ≤ j → j < mostIntervals → rowAt table i j ≡ 0
@@ -88,7 +88,7 @@ pub record SoFar (S : Setting) (F : Row) (t : Tally) (table : List (List ℕ)) (
   pub counted : size (S .doses) (remaining (classesIn t) (t .class)) + t .classed ≡ S .doses
   pub each : t .class ≤ t .classed
   pub later : (k i : ℕ) → k < S .doses → t .class ≤ i → T (classesIn t i k) → ⊥
-  pub grams : (i : ℕ) → i < t .class → getD (t .grams) i 0 ≡ W S (classesIn t i)
+  pub weight : (i : ℕ) → i < t .class → getD (t .weight) i 0 ≡ W S (classesIn t i)
   pub time : (i : ℕ) → i < t .class → getD (t .time) i 0 ≡ classP S F (classesIn t) i
   pub rows : (i j : ℕ) → i < t .class → j < S .intervals → rowAt table i j ≡ classes.reserved S F (classesIn t) i j
   pub valid : (i : ℕ) → i < t .class → Valid S (free S F (classesIn t) i) (classesIn t i) (sharesIn t shares i)

@@ -65,7 +65,7 @@ pub struct Tally {
     pub class: usize,
     pub classed: u64,
     pub numbers: [u32; MOST_DOSES],
-    pub grams: [u64; MOST_DOSES],
+    pub weight: [u64; MOST_DOSES],
     pub time: [u64; MOST_DOSES],
 }
 
@@ -121,7 +121,7 @@ impl Tally {
             class: 0,
             classed: 0,
             numbers: [0; MOST_DOSES],
-            grams: [0; MOST_DOSES],
+            weight: [0; MOST_DOSES],
             time: [0; MOST_DOSES],
         }
     }
@@ -129,7 +129,7 @@ impl Tally {
     // The tally after one class more.
     pub fn after(self, class: Class, doses: usize) -> Self
         requires { ⌜ (self .class < mostDoses) × (self .classed ≤ mostDoses) × (doses ≤ mostDoses) ⌝ }
-        ensures { λ r. ⌜ After doses (class .members) (class .grams) (class .time) self r ⌝ }
+        ensures { λ r. ⌜ After doses (class .members) (class .weight) (class .time) self r ⌝ }
     {
         let members = class.members;
         let number = self.class;
@@ -137,8 +137,8 @@ impl Tally {
         let remaining = left_of(rest, members);
         let before = self.numbers;
         let numbers = number_members(before, members, number as u32 + 1);
-        let mut grams = self.grams;
-        grams[number] = class.grams;
+        let mut weight = self.weight;
+        weight[number] = class.weight;
         let mut time = self.time;
         time[number] = class.time;
         Tally {
@@ -146,7 +146,7 @@ impl Tally {
             class: number + 1,
             classed: self.classed + size_of(doses, members),
             numbers,
-            grams,
+            weight,
             time,
         }
     }
@@ -239,7 +239,7 @@ fn phases(
 pub struct TooFast {
     pub above: bool,
     pub set: u64,
-    pub grams: u64,
+    pub weight: u64,
     pub time: u64,
 }
 
@@ -289,7 +289,7 @@ pub fn too_fast(o: Order, t: Tally) -> TooFast
     if t.class == 0 {
         return not_above();
     }
-    let w = t.grams[0];
+    let w = t.weight[0];
     let p = t.time[0];
     if excess(w as u32, p as u32, o.top_grams, o.top_seconds) == 0 {
         return not_above();
@@ -298,7 +298,7 @@ pub fn too_fast(o: Order, t: Tally) -> TooFast
     TooFast {
         above: true,
         set: first_set(numbers, o.count),
-        grams: w,
+        weight: w,
         time: p,
     }
 }

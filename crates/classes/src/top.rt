@@ -10,7 +10,7 @@ pub fn not_above() -> TooFast
     TooFast {
         above: false,
         set: 0,
-        grams: 0,
+        weight: 0,
         time: 0,
     }
 }

@@ -49,7 +49,7 @@ fn class_weight(t: Tally, i: usize) -> u64 {
     if MOST_DOSES <= i {
         return 0;
     }
-    t.grams[i]
+    t.weight[i]
 }
 
 // P of class i.
@@ -124,7 +124,7 @@ fn show_classes(t: Tally, doses: usize) {
 }
 
 // "Its share in an interval of length L is at most L × W units, only where it is active".
-fn stands(o: Order, s: Instants, grams: u64, share: u64, k: usize, j: usize) -> bool {
+fn stands(o: Order, s: Instants, weight: u64, share: u64, k: usize, j: usize) -> bool {
     if share == 0 {
         return true;
     }
@@ -137,7 +137,7 @@ fn stands(o: Order, s: Instants, grams: u64, share: u64, k: usize, j: usize) -> 
     if !interval::active(o, s, k, j) {
         return false;
     }
-    share <= bounded_product(wide(interval::span(s, j)), grams)
+    share <= bounded_product(wide(interval::span(s, j)), weight)
 }
 
 // "w × P units": what dose k of class i has in all.
@@ -154,12 +154,12 @@ fn dose_served(o: Order, s: Instants, t: Tally, shares: &[u64; CELLS], k: usize)
     if t.class <= i {
         return false;
     }
-    let grams = class_weight(t, i);
+    let weight = class_weight(t, i);
     let mut sum: u64 = 0;
     let mut j = 0;
     while j < MOST_INTERVALS {
         let share = share_at(shares, k, j);
-        if !stands(o, s, grams, share, k, j) {
+        if !stands(o, s, weight, share, k, j) {
             return false;
         }
         sum = wrapping_add_u64(sum, share);
@@ -266,7 +266,7 @@ fn show_order(o: Order)
     if top.above {
         show_refused(9, 0);
         number(top.set);
-        number(top.grams);
+        number(top.weight);
         number(top.time);
         word(b"\n");
         return;

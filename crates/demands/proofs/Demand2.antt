@@ -56,7 +56,7 @@ one-sequence o p p′ C C′ c c′ =
 -- every slot of a plan that stands has the number, the W and the P of its dose's class
 pub slots-have-the-rates : (o : Order) (plan : List ℕ) → Stands o plan → (p : ℕ) (C : ℕ → Doses) → Classes (settingOf o) (fansPresent o) p C
     → (s : Slot) → OneOf (slotsRead (planRecords plan)) s
-    → (i : ℕ) × (i < p) × T (C i (s .dose)) × (s .class ≡ i + 1) × (s .grams ≡ W (settingOf o) (C i)) × (s .time ≡ classP (settingOf o) (fansPresent o) C i)
+    → (i : ℕ) × (i < p) × T (C i (s .dose)) × (s .class ≡ i + 1) × (s .weight ≡ W (settingOf o) (C i)) × (s .time ≡ classP (settingOf o) (fansPresent o) C i)
 slots-have-the-rates = slot-rate
 
 -- ---- "The slots deliver each dose exactly, inside its window, no fan and no dose in two slots at one moment."
@@ -115,7 +115,7 @@ module _ (order : List ℕ) (o : Order) (e : readOrder order ≡ read o) where
 
   -- "and the set that shows it is named": the answer has the first class, its W and P, and these are above the top rate
   pub names-the-set : (a : Answer) → Refuses order a
-      → (A : Doses) × FirstClass o A × (a ≡ tooFast o A) × (a .time * o .topGrams < a .grams * o .topSeconds)
+      → (A : Doses) × FirstClass o A × (a ≡ tooFast o A) × (a .time * o .topGrams < a .weight * o .topSeconds)
   names-the-set a r =
       let n = refused-names order o e a r in
       (n .0 .set, n .0 .first, n .1, rw (n .1) (ltb→lt _ _ (n .0 .too-fast)))

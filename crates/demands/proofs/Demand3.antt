@@ -16,7 +16,7 @@ use Rattle.model.specs.Classes.{Classes, W, classP}
 use Rattle.model.specs.Intervals.{fansPresent, settingOf}
 use Rattle.model.specs.Plans.{Slot, planRecords, slotsRead}
 use Rattle.model.specs.Stands.{Stands, ends, starts}
-use Rattle.model.specs.Line.{HasFan, OneOf, RunsAt, drawn, gramsOf, timeOf, unitsBefore}
+use Rattle.model.specs.Line.{HasFan, OneOf, RunsAt, drawn, weightOf, timeOf, unitsBefore}
 use Rattle.model.proofs.Amounts.{drawn-near, drawn-slow}
 use Rattle.model.proofs.Orders.{read-fits}
 use Rattle.model.proofs.DrawnLine.{Line}
@@ -34,7 +34,7 @@ module _ (order : List ℕ) (o : Order) (e : readOrder order ≡ read o) (plan :
 
   -- the W and P of the dose's slots, its rate, are those of its class
   pub rate-of-its-class : (p : ℕ) (C : ℕ → Doses) → Classes (settingOf o) (fansPresent o) p C → (i : ℕ) → i < p → T (C i d)
-      → (gramsOf slots d ≡ W (settingOf o) (C i)) × (timeOf slots d ≡ classP (settingOf o) (fansPresent o) C i)
+      → (weightOf slots d ≡ W (settingOf o) (C i)) × (timeOf slots d ≡ classP (settingOf o) (fansPresent o) C i)
   rate-of-its-class = plan-rate o plan st (read-fits order o e) d dn
 
   -- "the drawn amount is behind the exact one by less than a gram and never ahead"
@@ -43,10 +43,10 @@ module _ (order : List ℕ) (o : Order) (e : readOrder order ≡ read o) (plan :
   behind-never-ahead t = drawn-near (unitsBefore slots d t) (timeOf slots d) (line .some-time)
 
   -- "over h seconds it rises by less than h × rate + 1 gram"
-  pub rises-slowly : (t h : ℕ) → drawn slots d (t + h) * timeOf slots d < drawn slots d t * timeOf slots d + h * gramsOf slots d + timeOf slots d
+  pub rises-slowly : (t h : ℕ) → drawn slots d (t + h) * timeOf slots d < drawn slots d t * timeOf slots d + h * weightOf slots d + timeOf slots d
   unfolding drawn
   rises-slowly t h =
-      drawn-slow (unitsBefore slots d t) (unitsBefore slots d (t + h)) (timeOf slots d) (h * gramsOf slots d) (line .some-time) (line .slow t h)
+      drawn-slow (unitsBefore slots d t) (unitsBefore slots d (t + h)) (timeOf slots d) (h * weightOf slots d) (line .some-time) (line .slow t h)
 
   -- and never falls
   pub never-falls : (t h : ℕ) → drawn slots d t ≤ drawn slots d (t + h)
@@ -56,7 +56,7 @@ module _ (order : List ℕ) (o : Order) (e : readOrder order ≡ read o) (plan :
 
   -- "and not at all where the dose has no slot time"
   pub still-without-slot-time : (t h : ℕ)
-      → ((s : Slot) → OneOf slots s → s .dose ≡ d → (ends s ≤ t * s .grams) ⊎ ((t + h) * s .grams ≤ starts s)) → drawn slots d (t + h) ≡ drawn slots d t
+      → ((s : Slot) → OneOf slots s → s .dose ≡ d → (ends s ≤ t * s .weight) ⊎ ((t + h) * s .weight ≤ starts s)) → drawn slots d (t + h) ≡ drawn slots d t
   unfolding drawn
   still-without-slot-time t h g = ap (λ (u : ℕ). u / timeOf slots d) (rests slots d t h g)
 
@@ -73,5 +73,5 @@ module _ (order : List ℕ) (o : Order) (e : readOrder order ≡ read o) (plan :
 
   -- "Inside its window a dose is without a fan only if every fan is running, each at that dose's rate or above"
   pub waits-only-while-all-fans-run : (q x : ℕ) → 0 < q → q * doseAt o d .release ≤ x → x < q * doseAt o d .deadline → (HasFan slots q x d → ⊥)
-      → (f : ℕ) → 1 ≤ f → f ≤ o .fans → RunsAt slots q x f (gramsOf slots d) (timeOf slots d)
+      → (f : ℕ) → 1 ≤ f → f ≤ o .fans → RunsAt slots q x f (weightOf slots d) (timeOf slots d)
   waits-only-while-all-fans-run = runs-others o (read-fits order o e) (st .count) (st .sets) (st .classes) slots (stand-read st) d dn

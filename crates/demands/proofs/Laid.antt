@@ -29,31 +29,31 @@ use Rattle.model.proofs.Slots.{Runs, open-share, other, runs}
 -- what ends by a tick ends before what starts at that tick or later
 ticks : {a b c d : ℕ} {s u : Slot} → Between a b s → Between c d u → b ≤ c → EndsBy s u
 ticks {s = s} {u = u} h g l = record {
-  by = omega (arith, mul-le-mul-right (u .grams) (h .high), mul-le-mul-right (s .grams * u .grams) l, mul-le-mul-right (s .grams) (g .low));
+  by = omega (arith, mul-le-mul-right (u .weight) (h .high), mul-le-mul-right (s .weight * u .weight) l, mul-le-mul-right (s .weight) (g .low));
 }
 
 -- and starts before it
-rises : {s u : Slot} → starts s < ends s → 0 < u .grams → EndsBy s u → starts s * u .grams < starts u * s .grams
-rises {s} {u} long heavy e = omega (arith, e .by, mul-lt-mul-of-pos-right {k = u .grams} long heavy)
+rises : {s u : Slot} → starts s < ends s → 0 < u .weight → EndsBy s u → starts s * u .weight < starts u * s .weight
+rises {s} {u} long heavy e = omega (arith, e .by, mul-lt-mul-of-pos-right {k = u .weight} long heavy)
 
 -- a slot between two ticks is between any two further out
 inside : {a b c d : ℕ} {s : Slot} → c ≤ a → b ≤ d → Between a b s → Between c d s
-inside {s = s} l r h = record { low = omega (arith, h .low, mul-le-mul-right (s .grams) l); high = omega (arith, h .high, mul-le-mul-right (s .grams) r) }
+inside {s = s} l r h = record { low = omega (arith, h .low, mul-le-mul-right (s .weight) l); high = omega (arith, h .high, mul-le-mul-right (s .weight) r) }
 
 -- ---- the classes of one interval of a table
 
 module _ (t : Table) (C : ℕ → Doses) (F j : ℕ) where
-  open Table t using (n, p, start, len, grams, time, fans, share)
+  open Table t using (n, p, start, len, weight, time, fans, share)
 
   -- a slot of class i there
   pub record Own (i : ℕ) (s : Slot) : Type 0 where
     pub class : i < p
     pub number : s .class ≡ i + 1
-    pub grams-of : s .grams ≡ grams i
+    pub weight-of : s .weight ≡ weight i
     pub time-of : s .time ≡ time i
     pub within : Between (start j) (start j + len j) s
-    pub start-part : s .startPart < s .grams
-    pub end-part : s .endPart < s .grams
+    pub start-part : s .startPart < s .weight
+    pub end-part : s .endPart < s .weight
     pub long : starts s < ends s
     pub dose : s .dose < n
     pub some : 0 < share i (s .dose) j
@@ -75,7 +75,7 @@ module _ (t : Table) (C : ℕ → Doses) (F j : ℕ) where
     own i l = All-imp (λ s h. record {
       class = l;
       number = h .class;
-      grams-of = h .grams;
+      weight-of = h .weight;
       time-of = h .time;
       within = h .within;
       start-part = h .start-part;
@@ -147,7 +147,7 @@ module _ (o : Order) (fit : Fit o) (p : ℕ) (C : ℕ → Doses) (c : Classes (s
   record At (j : ℕ) (s : Slot) : Type 0 where
     pub within : InInterval o j s
     pub long : starts s < ends s
-    pub heavy : 0 < s .grams
+    pub heavy : 0 < s .weight
     pub named : Named o p C s
 
   -- every slot of an interval's part of the list is one
@@ -170,7 +170,7 @@ module _ (o : Order) (fit : Fit o) (p : ℕ) (C : ℕ → Doses) (c : Classes (s
               number = h .number;
               known = h .class;
               member = h .member;
-              grams = h .grams-of;
+              weight = h .weight-of;
               time = h .time-of;
               fan-from = omega (arith, h .fan-from);
               fan-to = omega (arith, h .fan-to, sum-before p (λ h. reserved S (fansPresent o) C h j) i (h .class), can-run j r .room);

@@ -6,7 +6,7 @@ use mathlib.Core.List.{List}
 use Prim.Native.Nat.{ℕ, _+_, _*_, _≤_, _<_}
 use native.Mathlib.Nat.{le-of-mul-le-mul-right, mul-le-mul-right}
 use native.Mathlib.Omega.{arith}
-use Rattle.model.specs.Limits.{mostClassGrams, week}
+use Rattle.model.specs.Limits.{mostWeight, week}
 use Rattle.model.specs.Sets.{Doses}
 use Rattle.model.specs.Lists.{also, none}
 use Rattle.model.specs.Orders.{Order}
@@ -23,7 +23,7 @@ use Rattle.model.proofs.Intervals.{instants-week}
 use Rattle.model.proofs.Lists.{All-gather, All-imp}
 use Rattle.demands.proofs.Laid.{laid-stand}
 use Rattle.demands.proofs.Written.Plans.{NarrowClass, NarrowSlot, plan-back}
-use Rattle.model.proofs.Planner.{grams-most, time-most, weight-most}
+use Rattle.model.proofs.Planner.{W-most, time-most, weight-most}
 
 module _ (o : Order) (fit : Fit o) (p : ℕ) (C : ℕ → Doses) where
   abbrev S : Setting
@@ -32,10 +32,10 @@ module _ (o : Order) (fit : Fit o) (p : ℕ) (C : ℕ → Doses) where
   -- a slot that is named fits its record
   pub narrow-slot : p ≤ S .doses → (s : Slot) → Named o p C s → NarrowSlot s
   narrow-slot few s h =
-      let light : s .grams ≤ mostClassGrams = omega (arith, h .grams, grams-most o fit p C (C (h .class))) in
-      let high : ends s ≤ week * s .grams = omega (arith, h .in-interval .high, mul-le-mul-right (s .grams) (instants-week o fit (h .interval + 1))) in
-      let end : s .endTick ≤ week = le-of-mul-le-mul-right {k = s .grams} (omega arith) (omega (arith, h .start-part)) in
-      let start : s .startTick ≤ week = le-of-mul-le-mul-right {k = s .grams} (omega (arith, h .long)) (omega (arith, h .start-part)) in
+      let light : s .weight ≤ mostWeight = omega (arith, h .weight, W-most o fit p C (C (h .class))) in
+      let high : ends s ≤ week * s .weight = omega (arith, h .in-interval .high, mul-le-mul-right (s .weight) (instants-week o fit (h .interval + 1))) in
+      let end : s .endTick ≤ week = le-of-mul-le-mul-right {k = s .weight} (omega arith) (omega (arith, h .start-part)) in
+      let start : s .startTick ≤ week = le-of-mul-le-mul-right {k = s .weight} (omega (arith, h .long)) (omega (arith, h .start-part)) in
       record {
         fan = omega (arith, h .fan-to, fit .fans-most);
         dose = omega (arith, h .dose, fit .few);
@@ -43,7 +43,7 @@ module _ (o : Order) (fit : Fit o) (p : ℕ) (C : ℕ → Doses) where
         startPart = omega (arith, h .start-part);
         endTick = omega arith;
         endPart = omega (arith, h .end-part);
-        grams = omega arith;
+        weight = omega arith;
         time = omega (arith, h .time, time-most o fit p C (h .class));
         class = omega (arith, h .number, h .known, fit .few);
       }
@@ -53,7 +53,7 @@ module _ (o : Order) (fit : Fit o) (p : ℕ) (C : ℕ → Doses) where
   narrow-class i l = record {
     number = omega (arith, fit .few);
     doses = omega (arith, weight-most (S .doses) (λ k. 1) 1 (C i) (λ k q. omega arith), fit .few);
-    grams = omega (arith, grams-most o fit p C (C i));
+    weight = omega (arith, W-most o fit p C (C i));
     time = omega (arith, time-most o fit p C i);
   }
 

@@ -26,7 +26,7 @@ heldDrawn d = record {
   number = d .answer .number;
   place = d .answer .place;
   set = d .answer .set;
-  grams = d .answer .grams;
+  weight = d .answer .weight;
   time = d .answer .time;
   point = record { amount = d .point .amount; state = heldState (d .point .state) };
 }

@@ -173,7 +173,7 @@ fed-along [] d t = refl
 fed-along (s ∷ slots) d t = go (eqb d (s .dose)) (fed-along slots d t)
   where
     go : (own : Bool) {a r : State} → a ≡ r
-        → pick own (fedStep t s a) a ≡ pick (own && leb (starts s) (t * s .grams) && ltb (t * s .grams) (ends s)) (dosing (s .fan)) r
+        → pick own (fedStep t s a) a ≡ pick (own && leb (starts s) (t * s .weight) && ltb (t * s .weight) (ends s)) (dosing (s .fan)) r
     go true e = ap (fedStep t s) e
     go false e = e
 

@@ -33,10 +33,10 @@ asPoint p = record { amount = p .amount; state = asState (p .state) }
 
 -- the answer in five numbers
 abbrev pub answerOf : ℕ → ℕ → ℕ → ℕ → ℕ → Answer
-answerOf number place set grams time = record { number = number; place = place; set = set; grams = grams; time = time }
+answerOf number place set weight time = record { number = number; place = place; set = set; weight = weight; time = time }
 
 abbrev pub asDrawn : Drawn → answers.Drawn
-asDrawn d = record { answer = answerOf (d .number) (d .place) (d .set) (d .grams) (d .time); point = asPoint (d .point) }
+asDrawn d = record { answer = answerOf (d .number) (d .place) (d .set) (d .weight) (d .time); point = asPoint (d .point) }
 
 -- a pen at a dose and a tick
 abbrev pub penAt : ℕ → ℕ → answers.Pen
@@ -53,11 +53,11 @@ ownSlot plan k d = eqb (kindAt plan k) slotKind && eqb d (slotIn plan k .dose)
 
 -- the units of a slot before tick t
 unfoldable pub slotUnits : Slot → ℕ → ℕ
-slotUnits s t = min (ends s) (t * s .grams) - starts s
+slotUnits s t = min (ends s) (t * s .weight) - starts s
 
 -- it covers the instant t: "start at or before t, end after"
 unfoldable pub covering : Slot → ℕ → Bool
-covering s t = leb (starts s) (t * s .grams) && ltb (t * s .grams) (ends s)
+covering s t = leb (starts s) (t * s .weight) && ltb (t * s .weight) (ends s)
 
 -- ---- plan bytes
 

@@ -49,7 +49,7 @@ pub struct Drawn {
     pub number: u32,
     pub place: usize,
     pub set: u64,
-    pub grams: u64,
+    pub weight: u64,
     pub time: u64,
     pub point: Point,
 }
@@ -82,14 +82,14 @@ fn own_slot(plan: &[u8], k: usize, dose: usize) -> bool
 fn units_in(s: Slot, tick: u32) -> u64
     ensures { λ u. ⌜ u ≡ slotUnits (asSlot s) tick ⌝ }
 {
-    less(smaller(ends(s), product(tick, s.grams)), starts(s))
+    less(smaller(ends(s), product(tick, s.weight)), starts(s))
 }
 
 // "a slot covers the instant t (start at or before t, end after)"
 fn covers(s: Slot, tick: u32) -> bool
     ensures { λ t. ⌜ t ≡ covering (asSlot s) tick ⌝ }
 {
-    let now = product(tick, s.grams);
+    let now = product(tick, s.weight);
     both(starts(s) <= now, now < ends(s))
 }
 
@@ -194,14 +194,14 @@ fn point_of(o: Order, plan: &[u8], dose: usize, tick: u32) -> Point
 }
 
 // No point comes with a refusal.
-fn no_point(number: u32, place: usize, set: u64, grams: u64, time: u64) -> Drawn
-    ensures { λ d. ⌜ asDrawn d ≡ noPoint (answerOf number place set grams time) ⌝ }
+fn no_point(number: u32, place: usize, set: u64, weight: u64, time: u64) -> Drawn
+    ensures { λ d. ⌜ asDrawn d ≡ noPoint (answerOf number place set weight time) ⌝ }
 {
     Drawn {
         number,
         place,
         set,
-        grams,
+        weight,
         time,
         point: Point {
             amount: 0,
@@ -229,7 +229,7 @@ fn in_plan(order: &[u8], plan: &[u8], dose: usize, tick: u32) -> Drawn
         number: 0,
         place: 0,
         set: 0,
-        grams: 0,
+        weight: 0,
         time: 0,
         point: p,
     }
@@ -242,7 +242,7 @@ fn without_point(j: Judged) -> Drawn
     match j {
         Judged::Stands => no_point(0, 0, 0, 0, 0),
         Judged::Refused { number, place } => no_point(number, place, 0, 0, 0),
-        Judged::TooFast { set, grams, time } => no_point(9, 0, set, grams, time),
+        Judged::TooFast { set, weight, time } => no_point(9, 0, set, weight, time),
         Judged::Falls => no_point(10, 0, 0, 0, 0),
     }
 }

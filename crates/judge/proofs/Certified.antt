@@ -33,7 +33,7 @@ use Rattle.judge_clauses.specs.Tests.{InTurn, Passes, OrderHeld, HeldFrom, Slot
 use Rattle.order_arrays.specs.Arrays.{setsOf}
 use Rattle.judge.proofs.Rows.{class-row, gather-at, noClass, noRecord, plan-class, plan-length, plan-slot, rows-read, slot-row}
 use Rattle.judge_slots.proofs.Places.{ends-apart, turns-all}
-use Rattle.judge.proofs.Held.{instants-up, same-grams, same-size, same-time}
+use Rattle.judge.proofs.Held.{instants-up, same-weight, same-size, same-time}
 
 -- the slots from record i on, n of them
 unfoldable pub slotsFrom : List ℕ → ℕ → ℕ → List Slot
@@ -73,7 +73,7 @@ module _ (N : List ℕ) where
 
 -- classes with the same fields are one
 same-class : {n d g t n′ d′ g′ t′ : ℕ} → n ≡ n′ → d ≡ d′ → g ≡ g′ → t ≡ t′
-    → _≡_ {A = Class} (record { number = n; doses = d; grams = g; time = t }) (record { number = n′; doses = d′; grams = g′; time = t′ })
+    → _≡_ {A = Class} (record { number = n; doses = d; weight = g; time = t }) (record { number = n′; doses = d′; weight = g′; time = t′ })
 same-class a b c e = rw (a, b, c, e)
 
 module _ (o : Order) (fit : Fit o) (h : OrderHeld) (sh : HeldFrom o h) (b : List ℕ) (p : ℕ) (N : List ℕ) (short : p ≤ length b / 32) (q : Passes h b p N) where
@@ -96,7 +96,7 @@ module _ (o : Order) (fit : Fit o) (h : OrderHeld) (sh : HeldFrom o h) (b : List
         let c = q .classes i (omega arith) in
         let d = q .classes (suc i) l in
         let f = rw add-one at (q .rows .falls i (omega (arith, add-one i))) in
-        rw (← same-grams o h sh (C i), ← same-grams o h sh (C (suc i)), ← same-time o h sh C i, ← same-time o h sh C (suc i), ← c .grams, ← c .time, ← d .grams, ← d .time) (f .fall);
+        rw (← same-weight o h sh (C i), ← same-weight o h sh (C (suc i)), ← same-time o h sh C i, ← same-time o h sh C (suc i), ← c .weight, ← c .time, ← d .weight, ← d .time) (f .fall);
   }
 
   in-place : (i : ℕ) → i < m → p ≤ i → InInterval o (placeIn (h .instants) (h .intervals) (slotIn b i)) (slotIn b i)
@@ -119,7 +119,7 @@ module _ (o : Order) (fit : Fit o) (h : OrderHeld) (sh : HeldFrom o h) (b : List
         number = omega (arith, f .names .class);
         known = omega (arith, r .0, r .1);
         member = in-set N (ν - 1) (s .dose) (sym one);
-        grams = f .names .grams ∙ c .grams ∙ same-grams o h sh (C (ν - 1));
+        weight = f .names .weight ∙ c .weight ∙ same-weight o h sh (C (ν - 1));
         time = f .names .time ∙ c .time ∙ same-time o h sh C (ν - 1);
         fan-from = f .names .fan-from;
         fan-to = omega (arith, f .names .fan-to, sh .fans);
@@ -167,7 +167,7 @@ module _ (o : Order) (fit : Fit o) (h : OrderHeld) (sh : HeldFrom o h) (b : List
         go (by-fan e a) = stands.by-fan (placeIn (h .instants) (h .intervals) u) (rw e at inside) inside′ a
         go (by-time e f a) =
             stands.by-start (placeIn (h .instants) (h .intervals) u) (rw e at inside) inside′ f
-            (omega (arith, a .by, mul-lt-mul-of-pos-left {k = u .grams} (fs .long .long) (omega (arith, fu .long .start-part))))
+            (omega (arith, a .by, mul-lt-mul-of-pos-left {k = u .weight} (fs .long .long) (omega (arith, fu .long .start-part))))
 
     fan-apart : s .fan ≡ u .fan → NoOverlap s u
     fan-apart w = go (turn i l pi il lm)
@@ -227,7 +227,7 @@ module _ (o : Order) (fit : Fit o) (h : OrderHeld) (sh : HeldFrom o h) (b : List
       is-class : (k : ℕ) → k < p → classOf (recordAt b k) ≡ classAt o p C k
       is-class k l =
           let f = q .classes k l in
-          same-class (f .number) (f .doses ∙ same-size o h sh (C k)) (f .grams ∙ same-grams o h sh (C k)) (f .time ∙ same-time o h sh C k)
+          same-class (f .number) (f .doses ∙ same-size o h sh (C k)) (f .weight ∙ same-weight o h sh (C k)) (f .time ∙ same-time o h sh C k)
 
       at-row : (k : ℕ) → k < length (planOf (classesOf o p C) slots) → planRecordOf (recordAt b k) k ≡ read (getD (planOf (classesOf o p C) slots) k noRecord)
       at-row k l = elim (compare≤ p k) [

@@ -32,7 +32,7 @@ use Rattle.judge_clauses.specs.Tests.{ClassFits, ClassRow, InTurn, Leads, Class
 use Rattle.order_arrays.specs.Arrays.{setsOf}
 use Rattle.judge.proofs.Rows.{gather-at, noClass, plan-class, plan-length, plan-slot, read-rows, row-class, row-slot}
 use Rattle.judge_slots.proofs.Places.{place-at, tick-before, tick-from}
-use Rattle.judge.proofs.Held.{instants-up, same-grams, same-size, same-time}
+use Rattle.judge.proofs.Held.{instants-up, same-weight, same-size, same-time}
 use Rattle.judge.proofs.Certified.{in-set}
 use Rattle.judge.proofs.Naming.{numbers-named}
 
@@ -43,7 +43,7 @@ module _ (o : Order) (h : OrderHeld) (sh : HeldFrom o h) (s : Slot) (long : Slot
   real-interval j b = elim (compare≤ (intervalCount o) j) [
     | inl l ↦
         let past : instantAt o (j + 1) ≡ 0 = List·getD-eq-default (instants (o .doses)) 0 (omega arith) in
-        absurd (omega (arith, b .high, long .long, ap (λ (x : ℕ). x * s .grams) past))
+        absurd (omega (arith, b .high, long .long, ap (λ (x : ℕ). x * s .weight) past))
     | inr l ↦ l
   ]
 
@@ -51,8 +51,8 @@ module _ (o : Order) (h : OrderHeld) (sh : HeldFrom o h) (s : Slot) (long : Slot
   pub place-is : (j : ℕ) → InInterval o j s → placeIn (h .instants) (h .intervals) s ≡ j
   place-is j b =
       let l = real-interval j b in
-      let low : instantAt o j ≤ s .startTick = tick-from (instantAt o j) (s .startTick) (s .startPart) (s .grams) (long .start-part) (b .low) in
-      let high : s .startTick < instantAt o (j + 1) = tick-before (instantAt o (j + 1)) (s .startTick) (s .startPart) (s .grams) (omega (arith, b .high, long .long)) in
+      let low : instantAt o j ≤ s .startTick = tick-from (instantAt o j) (s .startTick) (s .startPart) (s .weight) (long .start-part) (b .low) in
+      let high : s .startTick < instantAt o (j + 1) = tick-before (instantAt o (j + 1)) (s .startTick) (s .startPart) (s .weight) (omega (arith, b .high, long .long)) in
       place-at (h .instants) (s .startTick) (h .intervals) j (omega (arith, sh .intervals))
       (λ i r. omega (arith, instants-up o h sh (i + 1) j (omega arith) (omega (arith, sh .intervals)), sh .instants j (omega (arith, sh .intervals))))
       (omega (arith, sh .instants (j + 1) (omega (arith, sh .intervals))))
@@ -176,7 +176,7 @@ module _ (o : Order) (fit : Fit o) (h : OrderHeld) (sh : HeldFrom o h) (b : List
         number = ap (λ (c : Class). c .number) e;
         doses = ap (λ (c : Class). c .doses) e ∙ weight-alike (S .doses) (λ k. 1) (D i) (setsOf N i) (alike i iq) ∙ sym (same-size o h sh (setsOf N i));
         some = rw e (le-weight (S .doses) (λ k. 1) (D i) (x .0) (x .1) (x .2));
-        grams = ap (λ (c : Class). c .grams) e ∙ weight-alike (S .doses) (S .grams) (D i) (setsOf N i) (alike i iq) ∙ sym (same-grams o h sh (setsOf N i));
+        weight = ap (λ (c : Class). c .weight) e ∙ weight-alike (S .doses) (S .grams) (D i) (setsOf N i) (alike i iq) ∙ sym (same-weight o h sh (setsOf N i));
         time = ap (λ (c : Class). c .time) e ∙ same-P i iq ∙ sym (same-time o h sh (setsOf N) i);
       }
 
@@ -195,7 +195,7 @@ module _ (o : Order) (fit : Fit o) (h : OrderHeld) (sh : HeldFrom o h) (b : List
         dose = dh;
         names = record {
           class = ν ∙ sym (n .number);
-          grams = n .grams ∙ sym (rw (back, e));
+          weight = n .weight ∙ sym (rw (back, e));
           time = n .time ∙ sym (rw (back, e));
           fan-from = n .fan-from;
           fan-to = omega (arith, n .fan-to, sh .fans);
@@ -238,7 +238,7 @@ module _ (o : Order) (fit : Fit o) (h : OrderHeld) (sh : HeldFrom o h) (b : List
         where
           first : NoOverlap (slotIn b i) (slotIn b l) → EndsBy (slotIn b i) (slotIn b l)
           first (inl e) = e
-          first (inr e) = absurd (omega (arith, e .by, t, mul-lt-mul-of-pos-left {k = slotIn b i .grams} (lu .long) (omega (arith, ls .start-part))))
+          first (inr e) = absurd (omega (arith, e .by, t, mul-lt-mul-of-pos-left {k = slotIn b i .weight} (lu .long) (omega (arith, ls .start-part))))
 
   -- plan bytes that stand pass
   pub stands-passes : Passes h b p N

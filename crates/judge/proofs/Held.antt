@@ -9,7 +9,7 @@ use Rattle.model.specs.Sets.{Doses, weight}
 use Rattle.model.specs.Orders.{Order}
 use Rattle.model.specs.Classes.{W, classP}
 use Rattle.model.specs.Intervals.{fansPresent, settingOf}
-use Rattle.model.proofs.Same.{Agree, weight-same, grams-same, class-time-same}
+use Rattle.model.proofs.Same.{Agree, weight-same, W-same, class-time-same}
 use Rattle.model.proofs.Lists.{Pairs-at}
 use Rattle.model.proofs.Intervals.{instants-sorted}
 use Rattle.judge_clauses.specs.Tests.{OrderHeld, HeldFrom, fansIn, settingIn}
@@ -30,8 +30,8 @@ module _ (o : Order) (h : OrderHeld) (sh : HeldFrom o h) where
   same-size A = weight-same (settingIn h) (settingOf o) agree (λ k. 1) (λ k. 1) A A (λ k l. refl) (λ k l. refl)
 
   -- the same W
-  pub same-grams : (A : Doses) → W (settingIn h) A ≡ W (settingOf o) A
-  same-grams A = grams-same (settingIn h) (settingOf o) agree A A (λ k l. refl)
+  pub same-weight : (A : Doses) → W (settingIn h) A ≡ W (settingOf o) A
+  same-weight A = W-same (settingIn h) (settingOf o) agree A A (λ k l. refl)
 
   -- the same P
   pub same-time : (C : ℕ → Doses) (i : ℕ) → classP (settingIn h) (fansIn h) C i ≡ classP (settingOf o) (fansPresent o) C i

@@ -33,7 +33,7 @@ use Rattle.judge.specs.Verdict.{Against, Certifies, Leader, fast, fastBy
 use Rattle.judge.specs.declared.Judged.{Judged}
 use Rattle.judge.specs.declared.Judged.the-variants as is
 use Rattle.judge_clauses.proofs.Tell.{tells-by}
-use Rattle.judge.proofs.Held.{same-grams, same-time}
+use Rattle.judge.proofs.Held.{same-weight, same-time}
 use Rattle.judge.proofs.Certified.{passes-classes, passes-stands}
 use Rattle.judge.proofs.Complete.{stands-passes}
 
@@ -62,7 +62,7 @@ module _ (o : model.Order) (fit : Fit o) (h : OrderHeld) (sh : HeldFrom o h) (pl
         short = short;
         none = λ e A f. let r = f .some in c .done (r .0) (r .1) (rw e tt);
         first = λ l. c .next 0 l;
-        grams = λ l. q .classes 0 l .grams ∙ same-grams o h sh (setsOf numbers 0);
+        weight = λ l. q .classes 0 l .weight ∙ same-weight o h sh (setsOf numbers 0);
         time = λ l. q .classes 0 l .time ∙ same-time o h sh (setsOf numbers) 0;
       }
 
@@ -97,22 +97,22 @@ module _ (o : Order) (other : Judged) (plan : List ℕ) (p : ℕ) (numbers : Lis
   abbrev A : Doses
   A = setsOf numbers 0
 
-  grams-is : c .grams ≡ W (settingOf (asOrder o)) A
-  grams-is = ap (λ (x : plans.Class). x .grams) e ∙ leader .grams l
+  weight-is : c .weight ≡ W (settingOf (asOrder o)) A
+  weight-is = ap (λ (x : plans.Class). x .weight) e ∙ leader .weight l
 
   time-is : c .time ≡ P (settingOf (asOrder o)) (fansPresent (asOrder o)) A
   time-is = ap (λ (x : plans.Class). x .time) e ∙ leader .time l
 
-  pub leader-slow : c .grams * o .«top_seconds» ≤ c .time * o .«top_grams» → Against (asOrder o) other other
-  leader-slow h = slow-if (asOrder o) other A (leader .first l) (rw (← grams-is, ← time-is, ← top-seconds-is o, ← top-grams-is o) h)
+  pub leader-slow : c .weight * o .«top_seconds» ≤ c .time * o .«top_grams» → Against (asOrder o) other other
+  leader-slow h = slow-if (asOrder o) other A (leader .first l) (rw (← weight-is, ← time-is, ← top-seconds-is o, ← top-grams-is o) h)
 
-  pub leader-fast : (set g t : ℕ) → set ≡ setNumber (o .count) A → g ≡ c .grams → t ≡ c .time → c .time * o .«top_grams» < c .grams * o .«top_seconds»
+  pub leader-fast : (set g t : ℕ) → set ≡ setNumber (o .count) A → g ≡ c .weight → t ≡ c .time → c .time * o .«top_grams» < c .weight * o .«top_seconds»
       → Against (asOrder o) other (is.TooFast set g t)
   leader-fast set g t es eg et h =
       fast-by (asOrder o) other _ A (leader .first l)
       (lt→ltb (P (settingOf (asOrder o)) (fansPresent (asOrder o)) A * asOrder o .topGrams) (W (settingOf (asOrder o)) A * asOrder o .topSeconds)
-      (rw (← grams-is, ← time-is, ← top-seconds-is o, ← top-grams-is o) h))
-      (rw (es ∙ ap (λ (n : ℕ). setNumber n A) (doses-is o), eg ∙ grams-is, et ∙ time-is))
+      (rw (← weight-is, ← time-is, ← top-seconds-is o, ← top-grams-is o) h))
+      (rw (es ∙ ap (λ (n : ℕ). setNumber n A) (doses-is o), eg ∙ weight-is, et ∙ time-is))
 
 -- ---- the order that was read
 

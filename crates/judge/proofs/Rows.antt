@@ -20,7 +20,7 @@ use Rattle.judge_clauses.specs.Tests.{ClassRow, SlotRow}
 
 -- what stands for a record past the last
 abbrev pub noRecord : PlanRecord
-noRecord = classRecord (record { number = 0; doses = 0; grams = 0; time = 0 })
+noRecord = classRecord (record { number = 0; doses = 0; weight = 0; time = 0 })
 
 -- ---- one record
 
@@ -124,7 +124,7 @@ gather-at (suc n) f d k l = elim (last l) [
 ]
 
 abbrev pub noClass : Class
-noClass = record { number = 0; doses = 0; grams = 0; time = 0 }
+noClass = record { number = 0; doses = 0; weight = 0; time = 0 }
 
 module _ (cs : List Class) (ss : List Slot) where
   -- a record of a plan by its index

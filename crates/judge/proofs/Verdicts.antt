@@ -37,14 +37,14 @@ module _ (order plan : List ℕ) where
 abbrev heldVerdict : Answer → Judged
 heldVerdict a =
     pick (eqb (a .number) 0) is.Stands
-    (pick (eqb (a .number) 9) (is.TooFast (a .set) (a .grams) (a .time))
+    (pick (eqb (a .number) 9) (is.TooFast (a .set) (a .weight) (a .time))
     (pick (eqb (a .number) 10) is.Falls (is.Refused (a .number) (a .place))))
 
 verdict-back : (r : Judged) → Numbered r → heldVerdict (asAnswer r) ≡ r
 verdict-back is.Stands n = refl
 verdict-back (is.Refused number place) n =
     rw (ne-eqb number 0 (λ e. omega (arith, n .0)), ne-eqb number 9 (λ e. omega (arith, n .1)), ne-eqb number 10 (λ e. omega (arith, n .1)))
-verdict-back (is.TooFast set grams time) n = refl
+verdict-back (is.TooFast set weight time) n = refl
 verdict-back is.Falls n = refl
 
 -- two verdicts on the same bytes are one

@@ -21,14 +21,14 @@ use Rattle.judge.specs.declared.Judged.the-variants as is
 abbrev pub asAnswer : Judged → Answer
 asAnswer is.Stands = done
 asAnswer (is.Refused number place) = refusal number place
-asAnswer (is.TooFast set grams time) = record { number = 9; place = 0; set = set; grams = grams; time = time }
+asAnswer (is.TooFast set weight time) = record { number = 9; place = 0; set = set; weight = weight; time = time }
 asAnswer is.Falls = refusal 10 0
 
 -- `Refused` carries 2 to 8: 0, 9 and 10 have verdicts of their own
 abbrev pub Numbered : Judged → Type 0
 Numbered is.Stands = Unit {0}
 Numbered (is.Refused number place) = (2 ≤ number) × (number ≤ 8)
-Numbered (is.TooFast set grams time) = Unit {0}
+Numbered (is.TooFast set weight time) = Unit {0}
 Numbered is.Falls = Unit {0}
 
 -- r is the verdict on plan bytes for an order
@@ -52,7 +52,7 @@ pub record Leader (o : Order) (plan : List ℕ) (p : ℕ) (numbers : List ℕ) :
   pub short : p ≤ length plan / 32
   pub none : p ≡ 0 → (A : Doses) → FirstClass o A → ⊥
   pub first : 0 < p → FirstClass o (setsOf numbers 0)
-  pub grams : 0 < p → classIn plan 0 .grams ≡ W (settingOf o) (setsOf numbers 0)
+  pub weight : 0 < p → classIn plan 0 .weight ≡ W (settingOf o) (setsOf numbers 0)
   pub time : 0 < p → classIn plan 0 .time ≡ P (settingOf o) (fansPresent o) (setsOf numbers 0)
 
 -- whether plan bytes stand, and if so the first class

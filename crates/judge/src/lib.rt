@@ -27,7 +27,7 @@ struct Found {
 pub enum Judged {
     Stands,
     Refused { number: u32, place: usize },
-    TooFast { set: u64, grams: u64, time: u64 },
+    TooFast { set: u64, weight: u64, time: u64 },
     Falls,
 }
 

@@ -21,12 +21,12 @@ pub fn against_top(o: Order, plan: &[u8], classes: usize, numbers: [u32; MOST_DO
         return Judged::Stands;
     }
     let c = class_at(plan, 0);
-    if excess(c.grams, c.time, o.top_grams, o.top_seconds) == 0 {
+    if excess(c.weight, c.time, o.top_grams, o.top_seconds) == 0 {
         return Judged::Stands;
     }
     Judged::TooFast {
         set: first_set(numbers, o.count),
-        grams: wide(c.grams),
+        weight: wide(c.weight),
         time: wide(c.time),
     }
 }
@@ -43,7 +43,7 @@ pub fn fallen(o: Order) -> Judged
     if top.above {
         return Judged::TooFast {
             set: top.set,
-            grams: top.grams,
+            weight: top.weight,
             time: top.time,
         };
     }

@@ -96,20 +96,20 @@ pub record ClassFits (h : OrderHeld) (numbers : List ℕ) (i : ℕ) (c : Class) 
   pub number : c .number ≡ i + 1
   pub doses : c .doses ≡ weight (h .doses) (λ k. 1) (setsOf numbers i)
   pub some : 1 ≤ c .doses
-  pub grams : c .grams ≡ W (settingIn h) (setsOf numbers i)
+  pub weight : c .weight ≡ W (settingIn h) (setsOf numbers i)
   pub time : c .time ≡ classP (settingIn h) (fansIn h) (setsOf numbers) i
 
 -- the same, from numbers that were worked out
-pub record Says (c : Class) (i size grams time : ℕ) : Type 0 where
+pub record Says (c : Class) (i size weight time : ℕ) : Type 0 where
   pub number : c .number ≡ i + 1
   pub doses : c .doses ≡ size
   pub some : 1 ≤ c .doses
-  pub weighs : c .grams ≡ grams
+  pub weighs : c .weight ≡ weight
   pub lasts : c .time ≡ time
 
 -- "Class rates fall strictly from class to class.": c before d
 pub record Falls (c d : Class) : Type 0 where
-  pub fall : d .grams * c .time < c .grams * d .time
+  pub fall : d .weight * c .time < c .weight * d .time
 
 -- the interval in which a slot starts
 abbrev pub placeIn : List ℕ → ℕ → Slot → ℕ
@@ -118,15 +118,15 @@ placeIn instants intervals s = intervalOf instants intervals (s .startTick)
 -- "each slot names a dose of its class, that class's W and P, an existing fan": c is its class
 pub record SlotNames (fans number : ℕ) (c : Class) (s : Slot) : Type 0 where
   pub class : number ≡ s .class
-  pub grams : s .grams ≡ c .grams
+  pub weight : s .weight ≡ c .weight
   pub time : s .time ≡ c .time
   pub fan-from : 1 ≤ s .fan
   pub fan-to : s .fan ≤ fans
 
 -- "has both parts below W and start before end"
 pub record SlotLong (s : Slot) : Type 0 where
-  pub start-part : s .startPart < s .grams
-  pub end-part : s .endPart < s .grams
+  pub start-part : s .startPart < s .weight
+  pub end-part : s .endPart < s .weight
   pub long : starts s < ends s
 
 -- "and lies within .. one interval"

@@ -25,7 +25,7 @@ fn ends_by(s: Slot, u: Slot) -> bool
     if u.start_tick < s.end_tick {
         return false;
     }
-    product(s.end_part, u.grams) <= product(u.start_part, s.grams)
+    product(s.end_part, u.weight) <= product(u.start_part, s.weight)
 }
 
 // Neighbours: the later one in a later interval, or on a higher fan, or behind the other.

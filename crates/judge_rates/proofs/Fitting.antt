@@ -42,11 +42,11 @@ module _ (h : OrderHeld) (few : h .doses ≤ mostDoses) (few′ : h .intervals �
   pub says-fits : {r : Bool} (c : Class) → Tells r (Says c i size w p) → Tells r (ClassFits h numbers i c)
   says-fits c tells =
       let doses = counted ∙ weight-alike (h .doses) (λ k. 1) (setOf set) (C i) marks in
-      let grams = worked-out .grams in
+      let weight = worked-out .weight in
       let time = worked-out .time in
       tells-by tells
-      (λ s. record { number = s .number; doses = s .doses ∙ doses; some = s .some; grams = s .weighs ∙ grams; time = s .lasts ∙ time })
-      (λ f. record { number = f .number; doses = f .doses ∙ sym doses; some = f .some; weighs = f .grams ∙ sym grams; lasts = f .time ∙ sym time })
+      (λ s. record { number = s .number; doses = s .doses ∙ doses; some = s .some; weight = s .weighs ∙ weight; time = s .lasts ∙ time })
+      (λ f. record { number = f .number; doses = f .doses ∙ sym doses; some = f .some; weighs = f .weight ∙ sym weight; lasts = f .time ∙ sym time })
 
   -- and the next class has the fans that are left
   pub frees-after : (next : List ℕ) → ((j : ℕ) → j < mostIntervals → getD next j 0 ≡ getD fans j 0 - getD open-fans j 0) → Frees S (fansIn h) C (i + 1) next

@@ -1,9 +1,9 @@
 // W and P of the sets that the slots name, by the rule (document 01, "From doses to classes"), against the C records.
 use measure::fan_time;
-use measure::grams_of;
 use measure::open_fans;
 use measure::set_of;
 use measure::size_of;
+use measure::weight_of;
 use records::Class;
 use records::class_at;
 use steps::excess;
@@ -33,9 +33,9 @@ fn free_after(free: [u64; MOST_INTERVALS], row: [u64; MOST_INTERVALS]) -> [u64; 
     left
 }
 
-fn says(c: Class, i: usize, size: u64, grams: u64, time: u64) -> bool
+fn says(c: Class, i: usize, size: u64, weight: u64, time: u64) -> bool
     requires { ⌜ i < mostDoses ⌝ }
-    ensures { λ t. ⌜ Tells t (Says (asClass c) i size grams time) ⌝ }
+    ensures { λ t. ⌜ Tells t (Says (asClass c) i size weight time) ⌝ }
 {
     if c.number as usize != i + 1 {
         return false;
@@ -46,7 +46,7 @@ fn says(c: Class, i: usize, size: u64, grams: u64, time: u64) -> bool
     if c.doses < 1 {
         return false;
     }
-    if c.grams as u64 != grams {
+    if c.weight as u64 != weight {
         return false;
     }
     c.time as u64 == time
@@ -75,7 +75,7 @@ pub fn classes_fit(
         let set = set_of(numbers, i);
         let row = open_fans(release, deadline, instants, doses, intervals, set, free);
         let time = fan_time(instants, intervals, row);
-        let w = grams_of(grams, doses, set);
+        let w = weight_of(grams, doses, set);
         let size = size_of(doses, set);
         let c = class_at(plan, i);
         if !says(c, i, size, w, time) {
@@ -92,7 +92,7 @@ pub fn classes_fit(
 fn falls(c: Class, d: Class) -> bool
     ensures { λ t. ⌜ Tells t (Falls (asClass c) (asClass d)) ⌝ }
 {
-    if excess(c.grams, c.time, d.grams, d.time) == 0 {
+    if excess(c.weight, c.time, d.weight, d.time) == 0 {
         return false;
     }
     true

@@ -59,30 +59,30 @@ tick-before d t q w h = elim (compare≤ d t) [
 
 -- ---- one slot behind another, "by ticks first and then by products of parts"
 
-module _ (s u : Slot) (ls : s .endPart < s .grams) (lu : u .startPart < u .grams) where
+module _ (s u : Slot) (ls : s .endPart < s .weight) (lu : u .startPart < u .weight) where
   pub ends-earlier : s .endTick < u .startTick → EndsBy s u
-  ends-earlier h = record { by = omega (arith, mul-le-mul-right (s .grams * u .grams) h, mul-le-mul-right (u .grams) (le-of-lt ls)) }
+  ends-earlier h = record { by = omega (arith, mul-le-mul-right (s .weight * u .weight) h, mul-le-mul-right (u .weight) (le-of-lt ls)) }
 
   pub ends-later : u .startTick < s .endTick → EndsBy s u → ⊥
-  ends-later h e = omega (arith, e .by, mul-le-mul-right (s .grams * u .grams) h, mul-lt-mul-of-pos-left {k = s .grams} lu (omega arith))
+  ends-later h e = omega (arith, e .by, mul-le-mul-right (s .weight * u .weight) h, mul-lt-mul-of-pos-left {k = s .weight} lu (omega arith))
 
-  pub ends-together : s .endTick ≡ u .startTick → s .endPart * u .grams ≤ u .startPart * s .grams → EndsBy s u
-  ends-together h l = record { by = omega (arith, ap (λ (x : ℕ). x * (s .grams * u .grams)) h) }
+  pub ends-together : s .endTick ≡ u .startTick → s .endPart * u .weight ≤ u .startPart * s .weight → EndsBy s u
+  ends-together h l = record { by = omega (arith, ap (λ (x : ℕ). x * (s .weight * u .weight)) h) }
 
-  pub ends-parts : s .endTick ≡ u .startTick → EndsBy s u → s .endPart * u .grams ≤ u .startPart * s .grams
-  ends-parts h e = omega (arith, e .by, ap (λ (x : ℕ). x * (s .grams * u .grams)) h)
+  pub ends-parts : s .endTick ≡ u .startTick → EndsBy s u → s .endPart * u .weight ≤ u .startPart * s .weight
+  ends-parts h e = omega (arith, e .by, ap (λ (x : ℕ). x * (s .weight * u .weight)) h)
 
 -- one behind another behind a third
-pub ends-chain : (s u v : Slot) → EndsBy s u → starts u < ends u → 0 < u .grams → EndsBy u v → EndsBy s v
+pub ends-chain : (s u v : Slot) → EndsBy s u → starts u < ends u → 0 < u .weight → EndsBy u v → EndsBy s v
 ends-chain s u v a l w b = record {
-  by = le-of-mul-le-mul-left {k = u .grams}
-      (omega (arith, mul-le-mul-left (v .grams) (a .by), mul-le-mul-left (s .grams) (b .by), mul-le-mul-left (s .grams * v .grams) (le-of-lt l))) w;
+  by = le-of-mul-le-mul-left {k = u .weight}
+      (omega (arith, mul-le-mul-left (v .weight) (a .by), mul-le-mul-left (s .weight) (b .by), mul-le-mul-left (s .weight * v .weight) (le-of-lt l))) w;
 }
 
 -- s ends by a tick at or after which u starts
 pub ends-apart : (a b from to : ℕ) (s u : Slot) → b ≤ from → Between a b s → Between from to u → EndsBy s u
 ends-apart a b from to s u l x y = record {
-  by = omega (arith, mul-le-mul-right (u .grams) (x .high), mul-le-mul-right (s .grams) (y .low), mul-le-mul-right (s .grams * u .grams) l);
+  by = omega (arith, mul-le-mul-right (u .weight) (x .high), mul-le-mul-right (s .weight) (y .low), mul-le-mul-right (s .weight * u .weight) l);
 }
 
 -- ---- slots in turn

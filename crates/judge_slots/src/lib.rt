@@ -27,7 +27,7 @@ fn slot_names(s: Slot, fans: u32, number: u32, c: Class) -> bool
     if number != s.class {
         return false;
     }
-    if s.grams != c.grams {
+    if s.weight != c.weight {
         return false;
     }
     if s.time != c.time {
@@ -43,10 +43,10 @@ fn slot_names(s: Slot, fans: u32, number: u32, c: Class) -> bool
 fn slot_long(s: Slot) -> bool
     ensures { λ t. ⌜ Tells t (SlotLong (asSlot s)) ⌝ }
 {
-    if s.grams <= s.start_part {
+    if s.weight <= s.start_part {
         return false;
     }
-    if s.grams <= s.end_part {
+    if s.weight <= s.end_part {
         return false;
     }
     starts(s) < ends(s)
@@ -55,10 +55,10 @@ fn slot_long(s: Slot) -> bool
 fn between(s: Slot, from: u32, to: u32) -> bool
     ensures { λ t. ⌜ Tells t (Between from to (asSlot s)) ⌝ }
 {
-    if starts(s) < moment(from, 0, s.grams) {
+    if starts(s) < moment(from, 0, s.weight) {
         return false;
     }
-    ends(s) <= moment(to, 0, s.grams)
+    ends(s) <= moment(to, 0, s.weight)
 }
 
 // The interval in which a tick lies; the number of intervals where it lies in none.

@@ -18,7 +18,7 @@ heldPlanned p = record {
   number = p .answer .number;
   place = p .answer .place;
   set = p .answer .set;
-  grams = p .answer .grams;
+  weight = p .answer .weight;
   time = p .answer .time;
   classes = p .classes;
   slots = p .slots;
@@ -29,7 +29,7 @@ pub planned-one : (r s : Planned) → asPlanned r ≡ asPlanned s → r ≡ s
 planned-one r s e = ap heldPlanned e
 
 abbrev heldJudged : Answer → Judged
-heldJudged a = record { number = a .number; place = a .place; set = a .set; grams = a .grams; time = a .time }
+heldJudged a = record { number = a .number; place = a .place; set = a .set; weight = a .weight; time = a .time }
 
 pub verdicts-once : {order plan : List ℕ} (r s : Judged) → Judges order plan (asJudged r) → Judges order plan (asJudged s) → r ≡ s
 verdicts-once r s a b = ap heldJudged (judges-one a b)
@@ -41,7 +41,7 @@ heldDrawn d = record {
   number = d .answer .number;
   place = d .answer .place;
   set = d .answer .set;
-  grams = d .answer .grams;
+  weight = d .answer .weight;
   time = d .answer .time;
   amount = d .point .amount;
   state = stateNumber (d .point .state);
@@ -53,7 +53,7 @@ drawn-is n = λ i. record {
   number = n .answer i .number;
   place = n .answer i .place;
   set = n .answer i .set;
-  grams = n .answer i .grams;
+  weight = n .answer i .weight;
   time = n .answer i .time;
   amount = n .amount i;
   state = n .state i;

@@ -11,10 +11,10 @@ use Rattle.knellgable.specs.declared.Judged.{Judged}
 use Rattle.knellgable.specs.declared.Drawn.{Drawn}
 
 abbrev pub asPlanned : Planned → answers.Planned
-asPlanned r = record { answer = answerOf (r .number) (r .place) (r .set) (r .grams) (r .time); classes = r .classes; slots = r .slots }
+asPlanned r = record { answer = answerOf (r .number) (r .place) (r .set) (r .weight) (r .time); classes = r .classes; slots = r .slots }
 
 abbrev pub asJudged : Judged → Answer
-asJudged r = answerOf (r .number) (r .place) (r .set) (r .grams) (r .time)
+asJudged r = answerOf (r .number) (r .place) (r .set) (r .weight) (r .time)
 
 -- ---- points
 
@@ -33,7 +33,7 @@ stateFan (dosing fan) = fan
 
 -- the numbers of what is drawn
 pub record DrawnNumbers (d : answers.Drawn) (r : Drawn) : Type 0 where
-  pub answer : answerOf (r .number) (r .place) (r .set) (r .grams) (r .time) ≡ d .answer
+  pub answer : answerOf (r .number) (r .place) (r .set) (r .weight) (r .time) ≡ d .answer
   pub amount : r .amount ≡ d .point .amount
   pub state : r .state ≡ stateNumber (d .point .state)
   pub fan : r .fan ≡ stateFan (d .point .state)

@@ -13,7 +13,7 @@ pub struct Planned {
     pub number: u32,
     pub place: usize,
     pub set: u64,
-    pub grams: u64,
+    pub weight: u64,
     pub time: u64,
     pub classes: usize,
     pub slots: usize,
@@ -25,7 +25,7 @@ pub struct Judged {
     pub number: u32,
     pub place: usize,
     pub set: u64,
-    pub grams: u64,
+    pub weight: u64,
     pub time: u64,
 }
 
@@ -35,7 +35,7 @@ pub struct Drawn {
     pub number: u32,
     pub place: usize,
     pub set: u64,
-    pub grams: u64,
+    pub weight: u64,
     pub time: u64,
     pub amount: u32,
     pub state: u32,
@@ -52,21 +52,21 @@ pub extern "C" fn knellgable_plan(order: &[u8], plan: &mut [u8]) -> Planned
         number: p.number,
         place: p.place,
         set: p.set,
-        grams: p.grams,
+        weight: p.weight,
         time: p.time,
         classes: p.classes,
         slots: p.slots,
     }
 }
 
-fn verdict(number: u32, place: usize, set: u64, grams: u64, time: u64) -> Judged
-    ensures { λ r. ⌜ asJudged r ≡ answerOf number place set grams time ⌝ }
+fn verdict(number: u32, place: usize, set: u64, weight: u64, time: u64) -> Judged
+    ensures { λ r. ⌜ asJudged r ≡ answerOf number place set weight time ⌝ }
 {
     Judged {
         number,
         place,
         set,
-        grams,
+        weight,
         time,
     }
 }
@@ -77,7 +77,7 @@ fn verdict_of(j: judge::Judged) -> Judged
     match j {
         judge::Judged::Stands => verdict(0, 0, 0, 0, 0),
         judge::Judged::Refused { number, place } => verdict(number, place, 0, 0, 0),
-        judge::Judged::TooFast { set, grams, time } => verdict(9, 0, set, grams, time),
+        judge::Judged::TooFast { set, weight, time } => verdict(9, 0, set, weight, time),
         judge::Judged::Falls => verdict(10, 0, 0, 0, 0),
     }
 }
@@ -124,7 +124,7 @@ fn drawn_numbers(d: draw::Drawn) -> Drawn
         number: d.number,
         place: d.place,
         set: d.set,
-        grams: d.grams,
+        weight: d.weight,
         time: d.time,
         amount: point.amount,
         state,

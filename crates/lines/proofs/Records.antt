@@ -23,7 +23,7 @@ line-length word vs =
 
 class-length : (c : Class) → length (classText c) ≤ 160
 unfolding classText
-class-length c = omega (arith, line-length (99 ∷ 108 ∷ 97 ∷ 115 ∷ 115 ∷ []) (c .number ∷ c .doses ∷ c .grams ∷ c .time ∷ []))
+class-length c = omega (arith, line-length (99 ∷ 108 ∷ 97 ∷ 115 ∷ 115 ∷ []) (c .number ∷ c .doses ∷ c .weight ∷ c .time ∷ []))
 
 slot-length : (s : Slot) → length (slotText s) ≤ 160
 unfolding slotText
@@ -55,17 +55,17 @@ module _ {b b′ : List ℕ} {at e : ℕ} where
 
   -- ---- a refusal
 
-  pub put-nine : (number place set grams time : ℕ) → number ≡ 9
-      → Put (lineText (114 ∷ 101 ∷ 102 ∷ 117 ∷ 115 ∷ 101 ∷ 100 ∷ []) (number ∷ place ∷ set ∷ grams ∷ time ∷ [])) b at b′ e
-      → Put (refusedText number place set grams time) b at b′ e
+  pub put-nine : (number place set weight time : ℕ) → number ≡ 9
+      → Put (lineText (114 ∷ 101 ∷ 102 ∷ 117 ∷ 115 ∷ 101 ∷ 100 ∷ []) (number ∷ place ∷ set ∷ weight ∷ time ∷ [])) b at b′ e
+      → Put (refusedText number place set weight time) b at b′ e
   unfolding refusedText
-  put-nine number place set grams time k h = rw (eq-eqb number 9 k) h
+  put-nine number place set weight time k h = rw (eq-eqb number 9 k) h
 
-  pub put-other : (number place set grams time : ℕ) → (number ≡ 9 → ⊥)
+  pub put-other : (number place set weight time : ℕ) → (number ≡ 9 → ⊥)
       → Put (lineText (114 ∷ 101 ∷ 102 ∷ 117 ∷ 115 ∷ 101 ∷ 100 ∷ []) (number ∷ place ∷ [])) b at b′ e
-      → Put (refusedText number place set grams time) b at b′ e
+      → Put (refusedText number place set weight time) b at b′ e
   unfolding refusedText
-  put-other number place set grams time k h = rw (ne-eqb number 9 k) h
+  put-other number place set weight time k h = rw (ne-eqb number 9 k) h
 
 -- ---- records in a row
 
@@ -107,13 +107,13 @@ plan-text-length plan classes slots =
     )
 
 -- the line of a refusal is at most 160 bytes
-pub refused-length : (number place set grams time : ℕ) → length (refusedText number place set grams time) ≤ 160
+pub refused-length : (number place set weight time : ℕ) → length (refusedText number place set weight time) ≤ 160
 unfolding refusedText
-refused-length number place set grams time = go (eqb number 9)
+refused-length number place set weight time = go (eqb number 9)
   where
     word : List ℕ
     word = 114 ∷ 101 ∷ 102 ∷ 117 ∷ 115 ∷ 101 ∷ 100 ∷ []
 
-    go : (t : Bool) → length (lineText word (pick t (number ∷ place ∷ set ∷ grams ∷ time ∷ []) (number ∷ place ∷ []))) ≤ 160
-    go true = omega (arith, line-length word (number ∷ place ∷ set ∷ grams ∷ time ∷ []))
+    go : (t : Bool) → length (lineText word (pick t (number ∷ place ∷ set ∷ weight ∷ time ∷ []) (number ∷ place ∷ []))) ≤ 160
+    go true = omega (arith, line-length word (number ∷ place ∷ set ∷ weight ∷ time ∷ []))
     go false = omega (arith, line-length word (number ∷ place ∷ []))

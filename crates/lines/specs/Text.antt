@@ -42,7 +42,7 @@ lineText word vs = word ++ (numbersText vs ++ (10 ∷ []))
 
 -- "`class` number, doses, W, P"
 unfoldable pub classText : Class → List ℕ
-classText c = lineText (99 ∷ 108 ∷ 97 ∷ 115 ∷ 115 ∷ []) (c .number ∷ c .doses ∷ c .grams ∷ c .time ∷ [])
+classText c = lineText (99 ∷ 108 ∷ 97 ∷ 115 ∷ 115 ∷ []) (c .number ∷ c .doses ∷ c .weight ∷ c .time ∷ [])
 
 -- "`slot` fan, dose, start tick, part, end tick, part, class"
 unfoldable pub slotText : Slot → List ℕ
@@ -56,9 +56,9 @@ totalText classes slots = lineText (116 ∷ 111 ∷ 116 ∷ 97 ∷ 108 ∷ []) (
 
 -- "A refusal prints `refused` number place, and for 9 also the set, W, P."
 unfoldable pub refusedText : ℕ → ℕ → ℕ → ℕ → ℕ → List ℕ
-refusedText number place set grams time =
+refusedText number place set weight time =
     lineText (114 ∷ 101 ∷ 102 ∷ 117 ∷ 115 ∷ 101 ∷ 100 ∷ [])
-    (pick (eqb number 9) (number ∷ place ∷ set ∷ grams ∷ time ∷ []) (number ∷ place ∷ []))
+    (pick (eqb number 9) (number ∷ place ∷ set ∷ weight ∷ time ∷ []) (number ∷ place ∷ []))
 
 -- ---- a plan
 

@@ -83,7 +83,7 @@ fn put_class_line(b: &mut [u8], at: usize, c: Class) -> usize
     let numbers = [
         c.number as u64,
         c.doses as u64,
-        c.grams as u64,
+        c.weight as u64,
         c.time as u64,
     ];
     put_line(b, at, b"class", &numbers)
@@ -154,15 +154,15 @@ pub fn print_refusal(
     number: u64,
     place: u64,
     set: u64,
-    grams: u64,
+    weight: u64,
     time: u64,
     out: &mut [u8],
 ) -> usize
     requires { ⌜ 160 ≤ length (now out) ⌝ }
-    ensures { λ r. ⌜ Put (refusedText number place set grams time) (now (out .entry)) 0 (now (out .exit)) r ⌝ }
+    ensures { λ r. ⌜ Put (refusedText number place set weight time) (now (out .entry)) 0 (now (out .exit)) r ⌝ }
 {
     if number == 9 {
-        let five = [number, place, set, grams, time];
+        let five = [number, place, set, weight, time];
         return put_line(out, 0, b"refused", &five);
     }
     let two = [number, place];

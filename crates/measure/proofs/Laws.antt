@@ -6,10 +6,10 @@ use Prim.Native.Nat.{ℕ, zero, suc, _*_, _<_, _≤_, min}
 use native.Mathlib.Nat.{mul-le-mul}
 use native.Mathlib.Omega.{arith}
 use lib.ListN.{getD}
-use Rattle.model.specs.Limits.{mostClassGrams, mostDoses, mostGrams, week}
+use Rattle.model.specs.Limits.{mostWeight, mostDoses, mostGrams, week}
 use Rattle.model.specs.Sets.{sum, on, weight, Doses}
 use Rattle.model.specs.Classes.{Setting, Row, P, openFans}
-use Rattle.model.proofs.Same.{Agree, fans-same, grams-same, time-same}
+use Rattle.model.proofs.Same.{Agree, fans-same, W-same, time-same}
 use Rattle.model.proofs.Sets.{Alike, on-below, weight-alike}
 use Rattle.model.proofs.Sums.{sum-congr}
 use Rattle.order_arrays.specs.Arrays.{setOf, lenOf, settingBy, Below, OrderArrays}
@@ -23,9 +23,9 @@ sum-most zero b f h = omega arith
 sum-most (suc n) b f h = omega (arith, sum-most n b f (λ k l. h k (omega arith)), h n (omega arith))
 
 module _ {n J : ℕ} {release deadline instants : List ℕ} {active : List Bool} {lens grams : List ℕ} (arrays : OrderArrays n J release deadline instants active lens grams) where
-  pub grams-most : (A : Doses) → weight n (λ k. getD grams k 0) A ≤ mostClassGrams
+  pub W-most : (A : Doses) → weight n (λ k. getD grams k 0) A ≤ mostWeight
   unfolding weight
-  grams-most A =
+  W-most A =
       omega (arith, arrays .few-doses, sum-most n mostGrams (λ k. on (A k) (getD grams k 0)) (λ k l. omega (arith, on-below (A k) (getD grams k 0), arrays .light k)))
 
   pub time-most : (fans : List ℕ) → Below mostDoses fans → sum J (λ j. lenOf instants j * getD fans j 0) ≤ 1000000000
@@ -54,13 +54,13 @@ module _ (n J : ℕ) (release deadline grams instants : List ℕ) (A : Doses) (s
   time = lasts ∙ sum-congr J (λ j l. ap (λ (y : ℕ). lenOf instants j * y) (fans j l))
 
   pub measured : Measured S row A w p open-fans
-  measured = record { grams = weighs ∙ weight-alike n _ (setOf set) A marked; time = time; fans = fans; no-fans = λ j g q. opened .none j g }
+  measured = record { weight = weighs ∙ weight-alike n _ (setOf set) A marked; time = time; fans = fans; no-fans = λ j g q. opened .none j g }
 
 -- and so in a setting that agrees
 pub measured-same : (S S′ : Setting) → Agree S S′ → {row : Row} {A : Doses} {w p : ℕ} {open-fans : List ℕ}
     → Measured S row A w p open-fans → Measured S′ row A w p open-fans
 measured-same S S′ a {row} {A} m = record {
-  grams = m .grams ∙ grams-same S S′ a A A (λ k l. refl);
+  weight = m .weight ∙ W-same S S′ a A A (λ k l. refl);
   time = m .time ∙ time-same S S′ a row row (λ j l. refl) A A (λ k l. refl);
   fans = λ j l. let l′ : j < S .intervals = omega (arith, a .intervals) in m .fans j l′ ∙ fans-same S S′ a row row (λ j l. refl) A A (λ k l. refl) j l′;
   no-fans = λ j g q. m .no-fans j (omega (arith, a .intervals)) q;

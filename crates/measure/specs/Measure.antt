@@ -21,7 +21,7 @@ pub record Opens (release deadline instants : List ℕ) (n J : ℕ) (set : List 
 
 -- W, P and the open fans of a set are worked out
 pub record Measured (S : Setting) (row : Row) (A : Doses) (w p : ℕ) (open-fans : List ℕ) : Type 0 where
-  pub grams : w ≡ W S A
+  pub weight : w ≡ W S A
   pub time : p ≡ P S row A
   pub fans : (j : ℕ) → j < S .intervals → getD open-fans j 0 ≡ openFans S row A j
   pub no-fans : (j : ℕ) → S .intervals ≤ j → j < mostIntervals → getD open-fans j 0 ≡ 0

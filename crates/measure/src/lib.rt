@@ -50,7 +50,7 @@ pub fn first_set(numbers: [u32; MOST_DOSES], doses: usize) -> u64
 }
 
 // "W(A) is the sum of grams of A."
-pub fn grams_of(grams: &[u32; MOST_DOSES], doses: usize, set: [bool; MOST_DOSES]) -> u64
+pub fn weight_of(grams: &[u32; MOST_DOSES], doses: usize, set: [bool; MOST_DOSES]) -> u64
     requires { ⌜ doses ≤ mostDoses ⌝ }
     ensures { λ r. ⌜ r ≡ weight doses (λ k. getD (now (grams .entry)) k 0) (setOf set) ⌝ }
 {

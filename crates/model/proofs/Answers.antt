@@ -40,9 +40,9 @@ first-one : (o : Order) (A B : Doses) → FirstClass o A → FirstClass o B → 
 first-one o A B a b =
     let same = next-unique (settingOf o) (fansPresent o) (λ k. true) A B a b in
     let set = weight-alike (settingOf o .doses) (λ k. 2 ^ k) A B same in
-    let grams = weight-alike (settingOf o .doses) (settingOf o .grams) A B same in
+    let weight = weight-alike (settingOf o .doses) (settingOf o .grams) A B same in
     let time = P-alike (settingOf o) (fansPresent o) A B same in
-    λ i. record { number = 9; place = 0; set = set i; grams = grams i; time = time i }
+    λ i. record { number = 9; place = 0; set = set i; weight = weight i; time = time i }
 
 -- an order is refused in one way
 pub refuses-one : {order : List ℕ} {a b : Answer} → Refuses order a → Refuses order b → a ≡ b
@@ -166,9 +166,9 @@ module _ (o : Order) (p : ℕ) (C C′ : ℕ → Doses) (c : Classes (settingOf 
   same-class : (i : ℕ) → i < p → classAt o p C i ≡ classAt o p C′ i
   same-class i l =
       let doses = weight-alike (S .doses) (λ k. 1) (C i) (C′ i) (same-set i l) in
-      let grams = weight-alike (S .doses) (S .grams) (C i) (C′ i) (same-set i l) in
+      let weight = weight-alike (S .doses) (S .grams) (C i) (C′ i) (same-set i l) in
       let time = same-time i l in
-      λ t. record { number = i + 1; doses = doses t; grams = grams t; time = time t }
+      λ t. record { number = i + 1; doses = doses t; weight = weight t; time = time t }
 
   -- the C records of an order are settled
   pub classes-settled : classesOf o p C ≡ classesOf o p C′
@@ -178,10 +178,10 @@ module _ (o : Order) (p : ℕ) (C C′ : ℕ → Doses) (c : Classes (settingOf 
   module _ (x x′ : ℕ → ℕ → ℕ → ℕ) (same : (i k j : ℕ) → i < p → k < S .doses → j < S .intervals → x i k j ≡ x′ i k j) where
     same-lane : (i j : ℕ) → i < p → lane (tableOf o p C x) i j ≡ lane (tableOf o p C′ x′) i j
     same-lane i j l =
-        let grams = weight-alike (S .doses) (S .grams) (C i) (C′ i) (same-set i l) in
+        let weight = weight-alike (S .doses) (S .grams) (C i) (C′ i) (same-set i l) in
         let time = same-time i l in
         let below = sum-congr i (λ h q. same-reserved h (omega arith) j) in
-        λ t. record { start = instantAt o j; len = S .len j; grams = grams t; time = time t; class = i + 1; below = below t }
+        λ t. record { start = instantAt o j; len = S .len j; weight = weight t; time = time t; class = i + 1; below = below t }
 
     pub same-slots : slotsOf o p C x ≡ slotsOf o p C′ x′
     unfolding tableSlots intervalSlots laneSlots
@@ -189,7 +189,7 @@ module _ (o : Order) (p : ℕ) (C C′ : ℕ → Doses) (c : Classes (settingOf 
         gather-congr (S .intervals) _ _ (λ j q. gather-congr p _ _ (λ i l.
         ap₂ (λ (w : Lane) (m : List Piece). map (pieceSlot w) m) (same-lane i j l)
         (line-congr _ (S .doses) (λ k. x i k j) (λ k. x′ i k j) (λ k r. same i k j l r q)
-        ∙ ap (λ (w : Lane). line (w .len * w .grams) (λ k. x′ i k j) (S .doses)) (same-lane i j l))))
+        ∙ ap (λ (w : Lane). line (w .len * w .weight) (λ k. x′ i k j) (S .doses)) (same-lane i j l))))
 
     -- and every byte of the plan
     pub plan-settled : planBytes o p C x ≡ planBytes o p C′ x′

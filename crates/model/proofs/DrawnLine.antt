@@ -16,7 +16,7 @@ use Rattle.model.specs.Classes.{Classes, Row, Setting, W, classP}
 use Rattle.model.specs.Intervals.{fansPresent, settingOf}
 use Rattle.model.specs.Plans.{Slot}
 use Rattle.model.specs.Stands.{SlotsStand, ends, starts, unitsOf}
-use Rattle.model.specs.Line.{gramsOf, timeOf, unitsBefore}
+use Rattle.model.specs.Line.{weightOf, timeOf, unitsBefore}
 use Rattle.model.proofs.Sequence.{Nested, all-in, nested, upto-find}
 use Rattle.model.proofs.Moments.{Pieces, Runs}
 use Rattle.model.proofs.Amounts.{ran, ran-after, ran-before, ran-up, units-slow}
@@ -26,14 +26,14 @@ use Rattle.model.proofs.ValidShares.{class-open, class-weighs}
 use Rattle.model.proofs.PlanPieces.{before-cells, class-at, class-grid, grid, grid-pos, houseOf, named-at, noSlot, pieces-run, piecesOf, slot-from, slot-to, slotAt, unit, unit-pos, units-cells}
 
 -- the slots of a dose name one W and one P: those are what the dose's slots name
-first-names : (d w t : ℕ) {slots : List Slot} → All (λ s. s .dose ≡ d → (s .grams ≡ w) × (s .time ≡ t)) slots → 0 < total (unitsOf d) slots
-    → (gramsOf slots d ≡ w) × (timeOf slots d ≡ t)
-unfolding total gramsOf timeOf
+first-names : (d w t : ℕ) {slots : List Slot} → All (λ s. s .dose ≡ d → (s .weight ≡ w) × (s .time ≡ t)) slots → 0 < total (unitsOf d) slots
+    → (weightOf slots d ≡ w) × (timeOf slots d ≡ t)
+unfolding total weightOf timeOf
 first-names d w t none h = absurd (omega arith)
 first-names d w t (also {a = s} {l = slots} n a) h = go (eqb d (s .dose)) refl h (first-names d w t a)
   where
-    go : (b : Bool) → eqb d (s .dose) ≡ b → 0 < on b (ends s - starts s) + total (unitsOf d) slots → (0 < total (unitsOf d) slots → (gramsOf slots d ≡ w) × (timeOf slots d ≡ t))
-        → (pick b (s .grams) (gramsOf slots d) ≡ w) × (pick b (s .time) (timeOf slots d) ≡ t)
+    go : (b : Bool) → eqb d (s .dose) ≡ b → 0 < on b (ends s - starts s) + total (unitsOf d) slots → (0 < total (unitsOf d) slots → (weightOf slots d ≡ w) × (timeOf slots d ≡ t))
+        → (pick b (s .weight) (weightOf slots d) ≡ w) × (pick b (s .time) (timeOf slots d) ≡ t)
     go true e g ih = n (sym (eqb-true d (s .dose) e))
     go false e g ih = ih (omega arith)
 
@@ -42,7 +42,7 @@ pub record Line (o : Order) (slots : List Slot) (d : ℕ) : Type 0 where
   pub some-time : 0 < timeOf slots d
   pub all-units : total (unitsOf d) slots ≡ doseAt o d .grams * timeOf slots d
   pub up : (t h : ℕ) → unitsBefore slots d t ≤ unitsBefore slots d (t + h)
-  pub slow : (t h : ℕ) → unitsBefore slots d (t + h) ≤ unitsBefore slots d t + h * gramsOf slots d
+  pub slow : (t h : ℕ) → unitsBefore slots d (t + h) ≤ unitsBefore slots d t + h * weightOf slots d
   pub early : (t : ℕ) → t ≤ doseAt o d .release → unitsBefore slots d t ≡ 0
   pub late : (t : ℕ) → doseAt o d .deadline ≤ t → unitsBefore slots d t ≡ total (unitsOf d) slots
 
@@ -76,17 +76,17 @@ module _ (o : Order) (fit : Fit o) (p : ℕ) (C : ℕ → Doses) (c : Classes (s
     l = m .class
 
     -- its slots name its class
-    pub names-class : (i : ℕ) → i < length slots → slotAt slots i .dose ≡ d → (slotAt slots i .grams ≡ W S (C l)) × (slotAt slots i .time ≡ classP S F C l)
+    pub names-class : (i : ℕ) → i < length slots → slotAt slots i .dose ≡ d → (slotAt slots i .weight ≡ W S (C l)) × (slotAt slots i .time ≡ classP S F C l)
     names-class i h e =
         let n = named-at o p C 1 slots st i h in
         let same = class-at o p C 1 slots st nest l d (m .known) dn (m .member) i h e in
-        (n .grams ∙ ap (λ (l : ℕ). W S (C l)) same, n .time ∙ ap (λ (l : ℕ). classP S F C l) same)
+        (n .weight ∙ ap (λ (l : ℕ). W S (C l)) same, n .time ∙ ap (λ (l : ℕ). classP S F C l) same)
 
     has-units : 0 < total (unitsOf d) slots
     has-units = rw (st .totals l d (m .known) dn (m .member)) (mul-pos (fit .some-grams d dn) (class-open o p C c fit l (m .known)))
 
     -- so these are its W and P
-    pub dose-rate : (gramsOf slots d ≡ W S (C l)) × (timeOf slots d ≡ classP S F C l)
+    pub dose-rate : (weightOf slots d ≡ W S (C l)) × (timeOf slots d ≡ classP S F C l)
     dose-rate = first-names d (W S (C l)) (classP S F C l) (All-of slots noSlot names-class) has-units
 
     pos : 0 < grid o p C 1
@@ -128,9 +128,9 @@ module _ (o : Order) (fit : Fit o) (p : ℕ) (C : ℕ → Doses) (c : Classes (s
         starts-later : (t : ℕ) → t ≤ doseAt o d .release → (i : ℕ) → i < length slots → slotAt slots i .dose ≡ d → grid o p C 1 * t ≤ Z .s i
         starts-later t g i h e =
             let n = named-at o p C 1 slots st i h in
-            slot-from o p C 1 (slotAt slots i) n t (omega (arith, n .window .low, mul-le-mul-right (slotAt slots i .grams) (rw (← e) at g)))
+            slot-from o p C 1 (slotAt slots i) n t (omega (arith, n .window .low, mul-le-mul-right (slotAt slots i .weight) (rw (← e) at g)))
 
         ends-before : (t : ℕ) → doseAt o d .deadline ≤ t → (i : ℕ) → i < length slots → slotAt slots i .dose ≡ d → Z .e i ≤ grid o p C 1 * t
         ends-before t g i h e =
             let n = named-at o p C 1 slots st i h in
-            slot-to o p C 1 (slotAt slots i) n t (omega (arith, n .window .high, mul-le-mul-right (slotAt slots i .grams) (rw (← e) at g)))
+            slot-to o p C 1 (slotAt slots i) n t (omega (arith, n .window .high, mul-le-mul-right (slotAt slots i .weight) (rw (← e) at g)))

@@ -49,7 +49,7 @@ crew-all o = fun-ext (λ j. size-all (o .fans))
 
 -- what stands for a slot past the last
 abbrev pub noSlot : Slot
-noSlot = record { fan = 0; dose = 0; startTick = 0; startPart = 0; endTick = 0; endPart = 0; grams = 0; time = 0; class = 0 }
+noSlot = record { fan = 0; dose = 0; startTick = 0; startPart = 0; endTick = 0; endPart = 0; weight = 0; time = 0; class = 0 }
 
 -- slot i
 abbrev pub slotAt : List Slot → ℕ → Slot
@@ -138,23 +138,23 @@ module _ (o : Order) (p : ℕ) (C : ℕ → Doses) (q : ℕ) where
     scale-class = ap (λ (c : ℕ). unit c) (omega (arith, n .number))
 
     -- W of them to the tick
-    pub slot-grid : scale s * s .grams ≡ grid
-    slot-grid = rw (scale-class, n .grams) (omega (arith, class-grid (n .class) (n .known)))
+    pub slot-grid : scale s * s .weight ≡ grid
+    slot-grid = rw (scale-class, n .weight) (omega (arith, class-grid (n .class) (n .known)))
 
-    others-grid : others p Wl (s .class - 1) * s .grams ≡ cells
-    others-grid = let e : s .class - 1 ≡ n .class = omega (arith, n .number) in rw (e, n .grams) (others-times p Wl (n .class) (n .known))
+    others-grid : others p Wl (s .class - 1) * s .weight ≡ cells
+    others-grid = let e : s .class - 1 ≡ n .class = omega (arith, n .number) in rw (e, n .weight) (others-times p Wl (n .class) (n .known))
 
     -- after a tick
-    pub slot-from : (a : ℕ) → a * s .grams ≤ starts s → grid * a ≤ starts s * scale s
+    pub slot-from : (a : ℕ) → a * s .weight ≤ starts s → grid * a ≤ starts s * scale s
     slot-from a h = omega (arith, mul-le-mul-left (scale s) h, ap (λ (y : ℕ). a * y) slot-grid)
 
     -- and before one
-    pub slot-to : (b : ℕ) → ends s ≤ b * s .grams → ends s * scale s ≤ grid * b
+    pub slot-to : (b : ℕ) → ends s ≤ b * s .weight → ends s * scale s ≤ grid * b
     slot-to b h = omega (arith, mul-le-mul-left (scale s) h, ap (λ (y : ℕ). b * y) slot-grid)
 
     module _ (some : (l : ℕ) → l < p → 0 < Wl l) where
       others-pos : 0 < others p Wl (s .class - 1)
-      others-pos = pos-left 0 (others p Wl (s .class - 1)) (s .grams) (omega (arith, others-grid, product-pos p Wl some))
+      others-pos = pos-left 0 (others p Wl (s .class - 1)) (s .weight) (omega (arith, others-grid, product-pos p Wl some))
 
       -- it covers the moment x/q where it has the cell
       pub cell-covers : (x : ℕ) → T (cover (starts s * scale s) (ends s * scale s) (x * cells)) → Covers q x s
@@ -256,10 +256,10 @@ module _ (o : Order) (p : ℕ) (C : ℕ → Doses) (q : ℕ) where
       pub before-cells : (t : ℕ) → ran (piecesOf slots) k (grid * t) ≡ unit l * unitsBefore slots k t
       unfolding unitsBefore
       before-cells t =
-          by-slots _ (λ s. min (ends s) (t * s .grams) - starts s) (λ i r e.
+          by-slots _ (λ s. min (ends s) (t * s .weight) - starts s) (λ i r e.
           let u = slotAt slots i in
-          let edge : grid * t ≡ t * u .grams * unit l = omega (arith, ap (λ (y : ℕ). t * y) (slot-grid u (named-at i r)), ap (λ (y : ℕ). t * u .grams * y) e) in
-          rw (e, edge) (times-before (unit l) (ends u) (t * u .grams) (starts u)))
+          let edge : grid * t ≡ t * u .weight * unit l = omega (arith, ap (λ (y : ℕ). t * y) (slot-grid u (named-at i r)), ap (λ (y : ℕ). t * u .weight * y) e) in
+          rw (e, edge) (times-before (unit l) (ends u) (t * u .weight) (starts u)))
 
     -- each dose's pieces last what its grams say
     pub pieces-total : Nested (S .doses) C p → Totals S (houseOf o) (piecesOf slots) p C

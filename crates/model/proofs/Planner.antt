@@ -7,7 +7,7 @@ use native.Mathlib.Nat.{mul-le-mul-left}
 use native.Mathlib.Numerals.{add-one}
 use native.Mathlib.Omega.{arith}
 use lib.ListN.{length}
-use Rattle.model.specs.Limits.{mostClassGrams, mostFanTime, mostFans, mostGrams, planRoom}
+use Rattle.model.specs.Limits.{mostWeight, mostFanTime, mostFans, mostGrams, planRoom}
 use Rattle.model.specs.Sets.{Doses, sum, weight}
 use Rattle.model.specs.Orders.{Order}
 use Rattle.model.specs.Classes.{Classes, P, Row, Setting, W, classP, free, openFans}
@@ -44,8 +44,8 @@ module _ (o : Order) (fit : Fit o) (p : ℕ) (C : ℕ → Doses) where
   S = settingOf o
 
   -- W of any set of doses
-  pub grams-most : (A : Doses) → W S A ≤ mostClassGrams
-  grams-most A = omega (arith, weight-most (S .doses) (S .grams) mostGrams A (fit .light), fit .few)
+  pub W-most : (A : Doses) → W S A ≤ mostWeight
+  W-most A = omega (arith, weight-most (S .doses) (S .grams) mostGrams A (fit .light), fit .few)
 
   -- the first intervals take no longer than up to their end
   lengths : (j : ℕ) → j ≤ S .intervals → sum j (S .len) ≤ instantAt o j

@@ -10,11 +10,11 @@ use Rattle.model.proofs.Records.{length-record, sizeOf}
 
 -- the fields of a class, the first of them the kind
 abbrev pub classFields : ℕ → Class → List ℕ
-classFields kind c = kind ∷ c .number ∷ c .doses ∷ c .grams ∷ c .time ∷ []
+classFields kind c = kind ∷ c .number ∷ c .doses ∷ c .weight ∷ c .time ∷ []
 
 -- and those of a slot
 abbrev pub slotFields : ℕ → Slot → List ℕ
-slotFields kind s = kind ∷ s .fan ∷ s .dose ∷ s .startTick ∷ s .startPart ∷ s .endTick ∷ s .endPart ∷ s .grams ∷ s .time ∷ s .class ∷ []
+slotFields kind s = kind ∷ s .fan ∷ s .dose ∷ s .startTick ∷ s .startPart ∷ s .endTick ∷ s .endPart ∷ s .weight ∷ s .time ∷ s .class ∷ []
 
 -- a record is 32 bytes
 pub length-one : (r : PlanRecord) → length (planRecordBytes r) ≡ 32

@@ -40,8 +40,8 @@ module _ (S S′ : Setting) (a : Agree S S′) where
   dose-sum-same f f′ e = sum-congr (S .doses) e ∙ ap (λ (n : ℕ). sum n f′) (a .doses)
 
   -- W of one set
-  pub grams-same : (A A′ : Doses) → Alike (S .doses) A A′ → W S A ≡ W S′ A′
-  grams-same A A′ eA = weight-same (S .grams) (S′ .grams) A A′ (a .grams) eA
+  pub W-same : (A A′ : Doses) → Alike (S .doses) A A′ → W S A ≡ W S′ A′
+  W-same A A′ eA = weight-same (S .grams) (S′ .grams) A A′ (a .grams) eA
 
   module _ (row row′ : Row) (er : (j : ℕ) → j < S .intervals → row j ≡ row′ j) where
     module _ (A A′ : Doses) (eA : Alike (S .doses) A A′) where
@@ -60,13 +60,13 @@ module _ (S S′ : Setting) (a : Agree S S′) where
       valid-same x x′ ex v = record {
         roomy = λ k j l q. let k< = below-doses l in let j< = below-intervals q in omega (arith, v .roomy k j k< j<, ex k j k< j<, room-same k j k< j<);
         full = λ j q. let j< = below-intervals q in
-            sym (dose-sum-same _ _ (λ k l. ex k j l j<)) ∙ v .full j j< ∙ ap₂ _*_ (fans-same j j<) (ap₂ _*_ (a .len j j<) (grams-same A A′ eA));
+            sym (dose-sum-same _ _ (λ k l. ex k j l j<)) ∙ v .full j j< ∙ ap₂ _*_ (fans-same j j<) (ap₂ _*_ (a .len j j<) (W-same A A′ eA));
         met = λ k l t. let k< = below-doses l in
             sym (sum-same _ _ (λ j q. ex k j k< q)) ∙ v .met k k< (alike-back (S .doses) A A′ eA k k< t) ∙ ap₂ _*_ (a .grams k k<) time-same;
       }
         where
           room-same : (k j : ℕ) → k < S .doses → j < S .intervals → room S row A k j ≡ room S′ row′ A′ k j
-          room-same k j l q = ap₂ on (ap₂ _&&_ (eA k l) (a .active k j l q)) (ap₂ _*_ (a .len j q) (grams-same A A′ eA))
+          room-same k j l q = ap₂ on (ap₂ _&&_ (eA k l) (a .active k j l q)) (ap₂ _*_ (a .len j q) (W-same A A′ eA))
 
     -- the next class
     pub next-same : (rest rest′ A A′ : Doses) → Alike (S .doses) rest rest′ → Alike (S .doses) A A′ → NextClass S row rest A → NextClass S′ row′ rest′ A′
@@ -83,10 +83,10 @@ module _ (S S′ : Setting) (a : Agree S S′) where
         some B r = (r .0, below-doses (r .1), r .2)
 
         left : (B : Doses) → W S B * P S row A ≡ W S′ B * P S′ row′ A′
-        left B = ap₂ _*_ (grams-same B B (λ k l. refl)) (time-same A A′ eA)
+        left B = ap₂ _*_ (W-same B B (λ k l. refl)) (time-same A A′ eA)
 
         right : (B : Doses) → W S A * P S row B ≡ W S′ A′ * P S′ row′ B
-        right B = ap₂ _*_ (grams-same A A′ eA) (time-same B B (λ k l. refl))
+        right B = ap₂ _*_ (W-same A A′ eA) (time-same B B (λ k l. refl))
 
   module _ (F F′ : Row) (eF : (j : ℕ) → j < S .intervals → F j ≡ F′ j) (C : ℕ → Doses) where
     -- the fans that the first classes leave

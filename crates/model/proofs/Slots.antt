@@ -25,26 +25,26 @@ use Rattle.model.proofs.Lists.{length-gather, sum-const, sum-pred}
 use Rattle.model.proofs.Wrap.{above, line-few}
 
 -- shares of m × L × W in all, on m fans: a slot for each share above zero, and one for each fan but the first
-laid-few : (l : Lane) (x : ℕ → ℕ) (n m : ℕ) → 0 < l .grams → 0 < l .len → sum n x ≡ m * (l .len * l .grams) → length (laneSlots l x n) ≤ above n x + (m - 1)
+laid-few : (l : Lane) (x : ℕ → ℕ) (n m : ℕ) → 0 < l .weight → 0 < l .len → sum n x ≡ m * (l .len * l .weight) → length (laneSlots l x n) ≤ above n x + (m - 1)
 unfolding laneSlots
 laid-few l x n m heavy wide full =
     omega (
       arith,
-      length-map (line (l .len * l .grams) x n) (pieceSlot l),
-      line-few (l .len * l .grams) (mul-pos wide heavy) x n m full,
+      length-map (line (l .len * l .weight) x n) (pieceSlot l),
+      line-few (l .len * l .weight) (mul-pos wide heavy) x n m full,
     )
 
 -- ---- the classes of one interval of a table
 
 module _ (t : Table) (C : ℕ → Doses) (F j : ℕ) where
-  open Table t using (n, p, len, grams, fans, share)
+  open Table t using (n, p, len, weight, fans, share)
 
   -- shares in interval j that F fans can run, of doses of the classes C
   pub record Runs : Type 0 where
-    pub heavy : (i : ℕ) → i < p → 0 < grams i
+    pub heavy : (i : ℕ) → i < p → 0 < weight i
     pub wide : 0 < len j
-    pub most : (i k : ℕ) → i < p → k < n → share i k j ≤ len j * grams i
-    pub full : (i : ℕ) → i < p → sum n (λ k. share i k j) ≡ fans i j * (len j * grams i)
+    pub most : (i k : ℕ) → i < p → k < n → share i k j ≤ len j * weight i
+    pub full : (i : ℕ) → i < p → sum n (λ k. share i k j) ≡ fans i j * (len j * weight i)
     pub room : sum p (λ i. fans i j) ≤ F
     pub mine : (i k : ℕ) → i < p → k < n → 0 < share i k j → T (C i k)
     pub known : (k : ℕ) → k < n → (i : ℕ) × (i < p) × T (C i k)

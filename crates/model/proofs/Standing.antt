@@ -10,7 +10,7 @@ use Rattle.model.specs.Classes.{Classes, P, Row, Setting, W, classP, fre
 use Rattle.model.specs.Intervals.{fansPresent, settingOf}
 use Rattle.model.specs.Plans.{Slot, planRecords, slotsRead}
 use Rattle.model.specs.Stands.{SlotsStand, Stands}
-use Rattle.model.specs.Line.{gramsOf, timeOf}
+use Rattle.model.specs.Line.{weightOf, timeOf}
 use Rattle.model.proofs.Sets.{Alike, weight-alike}
 use Rattle.model.proofs.FanTime.{P-alike}
 use Rattle.model.proofs.Sequence.{classes-unique, count-unique, free-alike, one-class}
@@ -64,7 +64,7 @@ module _ (o : Order) (plan : List ℕ) (st : Stands o plan) where
 
     -- its W and P are its class's
     pub plan-rate : (p : ℕ) (C : ℕ → Doses) → Classes S (fansPresent o) p C → (i : ℕ) → i < p → T (C i d)
-        → (gramsOf slots d ≡ W S (C i)) × (timeOf slots d ≡ classP S (fansPresent o) C i)
+        → (weightOf slots d ≡ W S (C i)) × (timeOf slots d ≡ classP S (fansPresent o) C i)
     plan-rate p C c i ip t =
         let named = dose-rate o fit (st .count) (st .sets) (st .classes) slots stand d dn own in
         let r = same-rate S (fansPresent o) (st .count) p (st .sets) C (st .classes) c (own .class) i d (own .known) ip dn (own .member) t in

@@ -1,4 +1,4 @@
--- Shares with nothing missing are valid, and every class has grams and open fan time.
+-- Shares with nothing missing are valid, and every class has weight and open fan time.
 use mathlib.Core.Path.{_∙_, _≡_}
 use Prim.Native.Nat.{ℕ, _*_, _≤_, _<_}
 use native.Mathlib.Omega.{arith}
@@ -36,7 +36,7 @@ module _ (S : Setting) (row : Row) (A : Doses) where
     valid-if-met = record { roomy = w .roomy; full = λ j l. sum-tight J (w .held) given-all j l; met = meets }
 
 module _ (o : Order) (p : ℕ) (C : ℕ → Doses) (c : Classes (settingOf o) (fansPresent o) p C) where
-  -- every class has grams
+  -- every class has weight
   pub class-weighs : Fit o → (i : ℕ) → i < p → 0 < W (settingOf o) (C i)
   class-weighs fit i l = weighs (settingOf o) (heavy o fit) (C i) (c .next i l .some)
 

@@ -23,12 +23,12 @@ pub record Answer : Type 0 where
   pub number : ℕ
   pub place : ℕ
   pub set : ℕ
-  pub grams : ℕ
+  pub weight : ℕ
   pub time : ℕ
 
 -- a refusal with its place
 abbrev pub refusal : ℕ → ℕ → Answer
-refusal number place = record { number = number; place = place; set = 0; grams = 0; time = 0 }
+refusal number place = record { number = number; place = place; set = 0; weight = 0; time = 0 }
 
 -- "0 done"
 abbrev pub done : Answer
@@ -50,7 +50,7 @@ tooFast o A = record {
   number = 9;
   place = 0;
   set = setNumber (settingOf o .doses) A;
-  grams = W (settingOf o) A;
+  weight = W (settingOf o) A;
   time = P (settingOf o) (fansPresent o) A;
 }
 

@@ -99,14 +99,14 @@ sameList same (a ∷ as′) (b ∷ bs) = same a b && sameList same as′ bs
 
 -- two C records agree field by field
 unfoldable pub sameClass : Class → Class → Bool
-sameClass a b = eqb (a .number) (b .number) && eqb (a .doses) (b .doses) && eqb (a .grams) (b .grams) && eqb (a .time) (b .time)
+sameClass a b = eqb (a .number) (b .number) && eqb (a .doses) (b .doses) && eqb (a .weight) (b .weight) && eqb (a .time) (b .time)
 
 -- two S records agree field by field
 unfoldable pub sameSlot : Slot → Slot → Bool
 sameSlot a b =
     (eqb (a .fan) (b .fan) && eqb (a .dose) (b .dose) && eqb (a .class) (b .class))
     && (eqb (a .startTick) (b .startTick) && eqb (a .startPart) (b .startPart) && eqb (a .endTick) (b .endTick) && eqb (a .endPart) (b .endPart))
-    && (eqb (a .grams) (b .grams) && eqb (a .time) (b .time))
+    && (eqb (a .weight) (b .weight) && eqb (a .time) (b .time))
 
 -- two states agree
 unfoldable pub sameState : State → State → Bool
@@ -134,7 +134,7 @@ samePoint a b = eqb (a .amount) (b .amount) && sameState (a .state) (b .state)
 -- two answers agree
 unfoldable pub sameAnswer : Answer → Answer → Bool
 sameAnswer a b =
-    eqb (a .number) (b .number) && eqb (a .place) (b .place) && (eqb (a .set) (b .set) && eqb (a .grams) (b .grams) && eqb (a .time) (b .time))
+    eqb (a .number) (b .number) && eqb (a .place) (b .place) && (eqb (a .set) (b .set) && eqb (a .weight) (b .weight) && eqb (a .time) (b .time))
 
 -- a list has no member
 unfoldable pub emptyList : {A : Type 0} → List A → Bool

@@ -95,18 +95,18 @@ D bay release deadline grams = recordBytes doseParts (doseKind ∷ bay ∷ relea
 
 -- number, doses, W, P
 abbrev class : ℕ → ℕ → ℕ → ℕ → Class
-class number doses grams time = record { number = number; doses = doses; grams = grams; time = time }
+class number doses weight time = record { number = number; doses = doses; weight = weight; time = time }
 
 -- fan, dose, start tick and part, end tick and part, W, P, class
 abbrev pub slot : ℕ → ℕ → ℕ → ℕ → ℕ → ℕ → ℕ → ℕ → ℕ → Slot
-slot fan dose start part end endpart grams time number = record {
+slot fan dose start part end endpart weight time number = record {
   fan = fan;
   dose = dose;
   startTick = start;
   startPart = part;
   endTick = end;
   endPart = endpart;
-  grams = grams;
+  weight = weight;
   time = time;
   class = number;
 }
@@ -122,9 +122,9 @@ refusedCase order number place =
 
 -- refused 9 for a first class: its doses, the set as a number, W, P
 abbrev fastCase : List ℕ → List ℕ → ℕ → ℕ → ℕ → Case
-fastCase order doses set grams time = record {
+fastCase order doses set weight time = record {
   order = order;
-  answer = record { number = 9; place = 0; set = set; grams = grams; time = time };
+  answer = record { number = 9; place = 0; set = set; weight = weight; time = time };
   sets = doses ∷ [];
   shares = [];
   classes = [];

@@ -43,7 +43,7 @@ line C x n = gather n (λ k. cut C k (sum k x) (x k))
 pub record Lane : Type 0 where
   pub start : ℕ
   pub len : ℕ
-  pub grams : ℕ
+  pub weight : ℕ
   pub time : ℕ
   pub class : ℕ
   pub below : ℕ
@@ -53,18 +53,18 @@ unfoldable pub pieceSlot : Lane → Piece → Slot
 pieceSlot l t = record {
   fan = l .below + t .fan + 1;
   dose = t .dose;
-  startTick = l .start + t .low / l .grams;
-  startPart = t .low % l .grams;
-  endTick = l .start + t .high / l .grams;
-  endPart = t .high % l .grams;
-  grams = l .grams;
+  startTick = l .start + t .low / l .weight;
+  startPart = t .low % l .weight;
+  endTick = l .start + t .high / l .weight;
+  endPart = t .high % l .weight;
+  weight = l .weight;
   time = l .time;
   class = l .class;
 }
 
 -- the slots of the doses below n with shares x
 unfoldable pub laneSlots : Lane → (ℕ → ℕ) → ℕ → List Slot
-laneSlots l x n = map (pieceSlot l) (line (l .len * l .grams) x n)
+laneSlots l x n = map (pieceSlot l) (line (l .len * l .weight) x n)
 
 -- ---- all classes, all intervals: "class 1 takes the lowest fans, class 2 the next, and so on"
 
@@ -75,17 +75,17 @@ pub record Table : Type 0 where
   pub J : ℕ
   pub start : ℕ → ℕ
   pub len : ℕ → ℕ
-  pub grams : ℕ → ℕ
+  pub weight : ℕ → ℕ
   pub time : ℕ → ℕ
   pub fans : ℕ → ℕ → ℕ
   pub share : ℕ → ℕ → ℕ → ℕ
 
 module _ (t : Table) where
-  open Table t using (n, p, J, start, len, grams, time, fans, share)
+  open Table t using (n, p, J, start, len, weight, time, fans, share)
 
   -- class i in interval j, above the fans of the classes before it
   abbrev pub lane : ℕ → ℕ → Lane
-  lane i j = record { start = start j; len = len j; grams = grams i; time = time i; class = i + 1; below = sum i (λ h. fans h j) }
+  lane i j = record { start = start j; len = len j; weight = weight i; time = time i; class = i + 1; below = sum i (λ h. fans h j) }
 
   -- the classes of interval j, one behind the other
   unfoldable pub intervalSlots : ℕ → List Slot
@@ -104,7 +104,7 @@ module _ (o : Order) (p : ℕ) (C : ℕ → Doses) where
     J = settingOf o .intervals;
     start = instantAt o;
     len = settingOf o .len;
-    grams = λ i. W (settingOf o) (C i);
+    weight = λ i. W (settingOf o) (C i);
     time = classP (settingOf o) (fansPresent o) C;
     fans = reserved (settingOf o) (fansPresent o) C;
     share = x;
@@ -119,7 +119,7 @@ module _ (o : Order) (p : ℕ) (C : ℕ → Doses) where
   classAt i = record {
     number = i + 1;
     doses = weight (settingOf o .doses) (λ k. 1) (C i);
-    grams = W (settingOf o) (C i);
+    weight = W (settingOf o) (C i);
     time = classP (settingOf o) (fansPresent o) C i;
   }
 

@@ -57,8 +57,8 @@ abbrev pub mostMarks : ℕ
 mostMarks = 72
 
 -- the W of a set: 24 × 1,000,000
-abbrev pub mostClassGrams : ℕ
-mostClassGrams = 24000000
+abbrev pub mostWeight : ℕ
+mostWeight = 24000000
 
 -- the P of a class: 8 fans for a week
 abbrev pub mostFanTime : ℕ

@@ -14,12 +14,12 @@ use Rattle.model.specs.Stands.{starts, ends}
 
 -- "units of the dose's slots before t"
 unfoldable pub unitsBefore : List Slot → ℕ → ℕ → ℕ
-unitsBefore slots d t = total (λ s. on (eqb d (s .dose)) (min (ends s) (t * s .grams) - starts s)) slots
+unitsBefore slots d t = total (λ s. on (eqb d (s .dose)) (min (ends s) (t * s .weight) - starts s)) slots
 
 -- the W that the slots of dose d name, as the first has it; the rate of the dose is W/P
-unfoldable pub gramsOf : List Slot → ℕ → ℕ
-gramsOf [] d = 0
-gramsOf (s ∷ slots) d = pick (eqb d (s .dose)) (s .grams) (gramsOf slots d)
+unfoldable pub weightOf : List Slot → ℕ → ℕ
+weightOf [] d = 0
+weightOf (s ∷ slots) d = pick (eqb d (s .dose)) (s .weight) (weightOf slots d)
 
 -- and the P
 unfoldable pub timeOf : List Slot → ℕ → ℕ
@@ -41,7 +41,7 @@ pub data State : Type 0 where
 unfoldable pub fedAt : List Slot → ℕ → ℕ → State
 fedAt [] d t = idle
 fedAt (s ∷ slots) d t =
-    pick (eqb d (s .dose) && leb (starts s) (t * s .grams) && ltb (t * s .grams) (ends s)) (dosing (s .fan)) (fedAt slots d t)
+    pick (eqb d (s .dose) && leb (starts s) (t * s .weight) && ltb (t * s .weight) (ends s)) (dosing (s .fan)) (fedAt slots d t)
 
 -- "Finished if t is at or past the deadline, else Shut before the release, else" as above
 unfoldable pub stateAt : Order → List Slot → ℕ → ℕ → State
@@ -60,8 +60,8 @@ pointAt o slots d t = record { amount = drawn slots d t; state = stateAt o slots
 
 -- a slot "starts at or before the moment and ends after it": x/q against starts/W and ends/W, by exact products
 pub record Covers (q x : ℕ) (s : Slot) : Type 0 where
-  pub from : starts s * q ≤ x * s .grams
-  pub after : x * s .grams < ends s * q
+  pub from : starts s * q ≤ x * s .weight
+  pub after : x * s .weight < ends s * q
 
 -- one of the slots
 pub record OneOf (slots : List Slot) (s : Slot) : Type 0 where
@@ -82,4 +82,4 @@ pub record RunsAt (slots : List Slot) (q x f w p : ℕ) : Type 0 where
   pub one : OneOf slots slot
   pub fan : slot .fan ≡ f
   pub covers : Covers q x slot
-  pub rate : w * slot .time ≤ slot .grams * p
+  pub rate : w * slot .time ≤ slot .weight * p

@@ -9,10 +9,10 @@ use Rattle.model.specs.Records.{pick, Reading, read, refused, recordSize
 pub record Class : Type 0 where
   pub number : ℕ
   pub doses : ℕ
-  pub grams : ℕ
+  pub weight : ℕ
   pub time : ℕ
 
--- the fields of an S record; W and P are its grams and its time, and its rate is the one divided by the other
+-- the fields of an S record; W and P are its weight and its time, and its rate is the one divided by the other
 pub record Slot : Type 0 where
   pub fan : ℕ
   pub dose : ℕ
@@ -20,7 +20,7 @@ pub record Slot : Type 0 where
   pub startPart : ℕ
   pub endTick : ℕ
   pub endPart : ℕ
-  pub grams : ℕ
+  pub weight : ℕ
   pub time : ℕ
   pub class : ℕ
 
@@ -33,7 +33,7 @@ pub data PlanRecord : Type 0 where
 
 -- the fields of a C record, from its bytes; field 0 is the kind
 abbrev pub classOf : List ℕ → Class
-classOf r = record { number = fieldOf classParts r 1; doses = fieldOf classParts r 2; grams = fieldOf classParts r 3; time = fieldOf classParts r 4 }
+classOf r = record { number = fieldOf classParts r 1; doses = fieldOf classParts r 2; weight = fieldOf classParts r 3; time = fieldOf classParts r 4 }
 
 -- the fields of an S record, from its bytes
 abbrev pub slotOf : List ℕ → Slot
@@ -44,7 +44,7 @@ slotOf r = record {
   startPart = fieldOf slotParts r 4;
   endTick = fieldOf slotParts r 5;
   endPart = fieldOf slotParts r 6;
-  grams = fieldOf slotParts r 7;
+  weight = fieldOf slotParts r 7;
   time = fieldOf slotParts r 8;
   class = fieldOf slotParts r 9;
 }
@@ -74,9 +74,9 @@ slotsRead (refused number place) = []
 
 -- the 32 bytes of a record of a plan
 unfoldable pub planRecordBytes : PlanRecord → List ℕ
-planRecordBytes (classRecord c) = recordBytes classParts (classKind ∷ c .number ∷ c .doses ∷ c .grams ∷ c .time ∷ [])
+planRecordBytes (classRecord c) = recordBytes classParts (classKind ∷ c .number ∷ c .doses ∷ c .weight ∷ c .time ∷ [])
 planRecordBytes (slotRecord s) =
-    recordBytes slotParts (slotKind ∷ s .fan ∷ s .dose ∷ s .startTick ∷ s .startPart ∷ s .endTick ∷ s .endPart ∷ s .grams ∷ s .time ∷ s .class ∷ [])
+    recordBytes slotParts (slotKind ∷ s .fan ∷ s .dose ∷ s .startTick ∷ s .startPart ∷ s .endTick ∷ s .endPart ∷ s .weight ∷ s .time ∷ s .class ∷ [])
 
 -- the bytes of records in a row
 unfoldable pub recordsBytes : List PlanRecord → List ℕ

@@ -15,11 +15,11 @@ use Rattle.model.specs.Layout.{classesOf}
 
 -- the ends of a slot in units of 1/W tick: "A moment is a tick plus part/W"
 abbrev pub starts : Slot → ℕ
-starts s = s .startTick * s .grams + s .startPart
+starts s = s .startTick * s .weight + s .startPart
 
 -- and where it ends
 abbrev pub ends : Slot → ℕ
-ends s = s .endTick * s .grams + s .endPart
+ends s = s .endTick * s .weight + s .endPart
 
 -- the units of a slot that are dose d's
 abbrev pub unitsOf : ℕ → Slot → ℕ
@@ -27,7 +27,7 @@ unitsOf d s = on (eqb d (s .dose)) (ends s - starts s)
 
 -- s ends at or before the moment at which u starts: ends/W against starts/W, by exact products
 pub record EndsBy (s u : Slot) : Type 0 where
-  pub by : ends s * u .grams ≤ starts u * s .grams
+  pub by : ends s * u .weight ≤ starts u * s .weight
 
 -- two slots do not overlap
 abbrev pub NoOverlap : Slot → Slot → Type 0
@@ -35,8 +35,8 @@ NoOverlap s u = EndsBy s u ⊎ EndsBy u s
 
 -- a slot lies between two ticks
 pub record Between (from to : ℕ) (s : Slot) : Type 0 where
-  pub low : from * s .grams ≤ starts s
-  pub high : ends s ≤ to * s .grams
+  pub low : from * s .weight ≤ starts s
+  pub high : ends s ≤ to * s .weight
 
 module _ (o : Order) where
   -- a slot lies within interval j
@@ -47,7 +47,7 @@ module _ (o : Order) where
   pub data InOrder (s u : Slot) : Type 0 where
     by-interval : (i j : ℕ) → i < j → InInterval i s → InInterval j u → InOrder s u
     by-fan : (j : ℕ) → InInterval j s → InInterval j u → s .fan < u .fan → InOrder s u
-    by-start : (j : ℕ) → InInterval j s → InInterval j u → s .fan ≡ u .fan → starts s * u .grams < starts u * s .grams → InOrder s u
+    by-start : (j : ℕ) → InInterval j s → InInterval j u → s .fan ≡ u .fan → starts s * u .weight < starts u * s .weight → InOrder s u
 
   module _ (p : ℕ) (C : ℕ → Doses) where
     -- "each slot names a dose of its class, that class's W and P, an existing fan, has both parts below W and start before end,
@@ -58,12 +58,12 @@ module _ (o : Order) where
       pub number : s .class ≡ class + 1
       pub known : class < p
       pub member : T (C class (s .dose))
-      pub grams : s .grams ≡ W (settingOf o) (C class)
+      pub weight : s .weight ≡ W (settingOf o) (C class)
       pub time : s .time ≡ classP (settingOf o) (fansPresent o) C class
       pub fan-from : 1 ≤ s .fan
       pub fan-to : s .fan ≤ o .fans
-      pub start-part : s .startPart < s .grams
-      pub end-part : s .endPart < s .grams
+      pub start-part : s .startPart < s .weight
+      pub end-part : s .endPart < s .weight
       pub long : starts s < ends s
       pub window : Between (doseAt o (s .dose) .release) (doseAt o (s .dose) .deadline) s
       pub interval : ℕ

@@ -18,7 +18,7 @@ use Rattle.model.proofs.Orders.{Fit}
 use Rattle.model.proofs.Intervals.{few-intervals, instants-rise, instants-week}
 use Rattle.model.proofs.Sequence.{few-classes}
 use Rattle.model.proofs.Slots.{Runs, few-slots, runs}
-use Rattle.model.proofs.Planner.{grams-most}
+use Rattle.model.proofs.Planner.{W-most}
 use Rattle.plan_layout.specs.declared.Tables.{Tables}
 use Rattle.plan_layout.specs.Held.{fansAt, lenAt, shareAt, tableFrom}
 use Rattle.plan_layout.specs.Laying.{Filled}
@@ -41,7 +41,7 @@ module _ (o : Order) (t : Tables) (x : List ℕ) (m : List (List ℕ)) (h : Hold
     J = h .intervals;
     start = λ j q. h .instants j (omega (arith, h .intervals));
     len = λ j q. len-same j (omega (arith, h .intervals));
-    grams = h .grams;
+    weight = h .weight;
     time = h .time;
     fans = λ i j l q. h .fans i j l (omega (arith, h .intervals));
     share = λ i k j l q r. refl;
@@ -53,7 +53,7 @@ module _ (o : Order) (t : Tables) (x : List ℕ) (m : List (List ℕ)) (h : Hold
 
   class-same : (i : ℕ) → i < t .classes → classFrom t i ≡ classAt o (t .classes) C i
   unfolding classFrom
-  class-same i l = rw (h .doses, h .grams i l, h .time i l)
+  class-same i l = rw (h .doses, h .weight i l, h .time i l)
 
   -- their classes are the order's
   pub held-classes : classesFrom t ≡ classesOf o (t .classes) C
@@ -83,10 +83,10 @@ module _ (o : Order) (t : Tables) (x : List ℕ) (m : List (List ℕ)) (h : Hold
       size = h .size;
       week = λ j q. omega (arith, h .instants (j + 1) (omega (arith, h .intervals)), instants-week o fit (j + 1));
       wide = λ j q. omega (arith, h .instants j (omega (arith, h .intervals)), h .instants (j + 1) (omega (arith, h .intervals)), instants-rise o j (omega (arith, h .intervals)));
-      heavy = λ i l. omega (arith, h .grams i l, weighs (settingOf o) (fit .some-grams) (C i) (h .classes .next i l .some));
-      light = λ i l. omega (arith, h .grams i l, grams-most o fit (t .classes) C (C i));
-      most = λ i k j l q r. rw (len-same j (in-order j r), h .grams i l) (run j (in-order j r) .most i k l (omega (arith, h .doses)));
-      full = λ i j l r. rw (h .doses, len-same j (in-order j r), h .grams i l, h .fans i j l (in-order j r)) (run j (in-order j r) .full i l);
+      heavy = λ i l. omega (arith, h .weight i l, weighs (settingOf o) (fit .some-grams) (C i) (h .classes .next i l .some));
+      light = λ i l. omega (arith, h .weight i l, W-most o fit (t .classes) C (C i));
+      most = λ i k j l q r. rw (len-same j (in-order j r), h .weight i l) (run j (in-order j r) .most i k l (omega (arith, h .doses)));
+      full = λ i j l r. rw (h .doses, len-same j (in-order j r), h .weight i l, h .fans i j l (in-order j r)) (run j (in-order j r) .full i l);
       room = λ j r. omega (arith, sum-congr (t .classes) {f = λ i. fansAt m i j} {g = λ i. reserved (settingOf o) (fansPresent o) C i j} (λ i l. h .fans i j l (in-order j r)), run j (in-order j r) .room, fit .fans-most);
     }
 

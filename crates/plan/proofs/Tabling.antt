@@ -11,7 +11,7 @@ use Rattle.model.specs.Intervals.{fansPresent, settingOf}
 use Rattle.model.specs.Answers.{ValidShares}
 use Rattle.model.proofs.Orders.{Fit}
 use Rattle.model.proofs.Sequence.{few-classes}
-use Rattle.model.proofs.Planner.{grams-most, time-most}
+use Rattle.model.proofs.Planner.{W-most, time-most}
 use Rattle.order.specs.declared.Order as code
 use Rattle.order.specs.Held.{asOrder}
 use Rattle.order.proofs.Fields.{doses-is}
@@ -27,16 +27,16 @@ use Rattle.plan.specs.Held.{Holds, TablesOf}
 abbrev sharesBy : List ℕ → List ℕ → ℕ → ℕ → ℕ → ℕ
 sharesBy numbers shares i k j = on (setsOf numbers i k) (getD shares (k * mostIntervals + j) 0)
 
-module _ {o : code.Order} (fit : Fit (asOrder o)) {s : Instants} (bounds : InstantsOf o s) {p : ℕ} {numbers grams time : List ℕ} {t : Tables}
-    (made : TablesOf (o .count) s p numbers grams time t)
+module _ {o : code.Order} (fit : Fit (asOrder o)) {s : Instants} (bounds : InstantsOf o s) {p : ℕ} {numbers weight time : List ℕ} {t : Tables}
+    (made : TablesOf (o .count) s p numbers weight time t)
     (found : Classes (settingOf (asOrder o)) (fansPresent (asOrder o)) p (setsOf numbers))
-    (weighed : (i : ℕ) → i < p → getD grams i 0 ≡ W (settingOf (asOrder o)) (setsOf numbers i))
+    (weighed : (i : ℕ) → i < p → getD weight i 0 ≡ W (settingOf (asOrder o)) (setsOf numbers i))
     (timed : (i : ℕ) → i < p → getD time i 0 ≡ classP (settingOf (asOrder o)) (fansPresent (asOrder o)) (setsOf numbers) i) where
   few : (i : ℕ) → i < p → i < mostDoses
   few i l = omega (arith, few-classes (settingOf (asOrder o)) (fansPresent (asOrder o)) p (setsOf numbers) found, fit .few)
 
-  grams-held : (i : ℕ) → i < p → getD (t .grams) i 0 ≡ W (settingOf (asOrder o)) (setsOf numbers i)
-  grams-held i l = omega (arith, made .grams-is i (few i l), weighed i l, grams-most (asOrder o) fit p (setsOf numbers) (setsOf numbers i))
+  weight-held : (i : ℕ) → i < p → getD (t .weight) i 0 ≡ W (settingOf (asOrder o)) (setsOf numbers i)
+  weight-held i l = omega (arith, made .weight-is i (few i l), weighed i l, W-most (asOrder o) fit p (setsOf numbers) (setsOf numbers i))
 
   time-held : (i : ℕ) → i < p → getD (t .time) i 0 ≡ classP (settingOf (asOrder o)) (fansPresent (asOrder o)) (setsOf numbers) i
   time-held i l = omega (arith, made .time-is i (few i l), timed i l, time-most (asOrder o) fit p (setsOf numbers) i)
@@ -51,7 +51,7 @@ module _ {o : code.Order} (fit : Fit (asOrder o)) {s : Instants} (bounds : Insta
     intervals = omega (arith, made .intervals-is, count-is o s bounds);
     instants = λ j l. instant-is o s bounds j;
     classes = found;
-    grams = grams-held;
+    weight = weight-held;
     time = time-held;
     fans = rowed;
     size = size;

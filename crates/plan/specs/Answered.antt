@@ -15,7 +15,7 @@ use Rattle.plan.specs.declared.Planned.{Planned}
 -- the answer that the struct holds
 abbrev pub asPlanned : Planned → answers.Planned
 asPlanned r = record {
-  answer = record { number = r .number; place = r .place; set = r .set; grams = r .grams; time = r .time };
+  answer = record { number = r .number; place = r .place; set = r .set; weight = r .weight; time = r .time };
   classes = r .classes;
   slots = r .slots;
 }

@@ -24,7 +24,7 @@ membersFrom t = setsOf (t .«class_of»)
 -- "1 class number from 1; 2-3 doses in it; 4-7 W; 8-11 P"
 unfoldable pub classFrom : Tables → ℕ → Class
 classFrom t i =
-    record { number = i + 1; doses = weight (t .doses) (λ k. 1) (membersFrom t i); grams = getD (t .grams) i 0; time = getD (t .time) i 0 }
+    record { number = i + 1; doses = weight (t .doses) (λ k. 1) (membersFrom t i); weight = getD (t .weight) i 0; time = getD (t .time) i 0 }
 
 abbrev pub classesFrom : Tables → List Class
 classesFrom t = gather (t .classes) (λ i. classFrom t i ∷ [])
@@ -39,18 +39,18 @@ pub record Holds (o : Order) (t : Tables) (shares : List ℕ) (rows : List (List
   pub intervals : t .intervals ≡ settingOf o .intervals
   pub instants : (j : ℕ) → j ≤ settingOf o .intervals → getD (t .instants) j 0 ≡ instantAt o j
   pub classes : Classes (settingOf o) (fansPresent o) (t .classes) (membersFrom t)
-  pub grams : (i : ℕ) → i < t .classes → getD (t .grams) i 0 ≡ W (settingOf o) (membersFrom t i)
+  pub weight : (i : ℕ) → i < t .classes → getD (t .weight) i 0 ≡ W (settingOf o) (membersFrom t i)
   pub time : (i : ℕ) → i < t .classes → getD (t .time) i 0 ≡ classP (settingOf o) (fansPresent o) (membersFrom t) i
   pub fans : (i j : ℕ) → i < t .classes → j < settingOf o .intervals → fansAt rows i j ≡ reserved (settingOf o) (fansPresent o) (membersFrom t) i j
   pub size : length shares ≡ cells
   pub valid : ValidShares o (t .classes) (membersFrom t) (shareAt t shares)
 
 -- tables of so many doses and classes, with the instants, classes, W and P of these arrays
-pub record TablesOf (doses : ℕ) (s : Instants) (classes : ℕ) (classOf grams time : List ℕ) (t : Tables) : Type 0 where
+pub record TablesOf (doses : ℕ) (s : Instants) (classes : ℕ) (classOf weight time : List ℕ) (t : Tables) : Type 0 where
   pub doses-is : t .doses ≡ doses
   pub classes-is : t .classes ≡ classes
   pub intervals-is : t .intervals ≡ s .count - 1
   pub instants-is : t .instants ≡ s .at
   pub class-of-is : t .«class_of» ≡ classOf
-  pub grams-is : (i : ℕ) → i < mostDoses → getD (t .grams) i 0 ≡ getD grams i 0 % 4294967296
+  pub weight-is : (i : ℕ) → i < mostDoses → getD (t .weight) i 0 ≡ getD weight i 0 % 4294967296
   pub time-is : (i : ℕ) → i < mostDoses → getD (t .time) i 0 ≡ getD time i 0 % 4294967296

@@ -26,7 +26,7 @@ pub fn refused(number: u32, place: usize) -> Planned
         number,
         place,
         set: 0,
-        grams: 0,
+        weight: 0,
         time: 0,
         classes: 0,
         slots: 0,
@@ -41,7 +41,7 @@ fn refused_class(f: TooFast) -> Planned
         number: 9,
         place: 0,
         set: f.set,
-        grams: f.grams,
+        weight: f.weight,
         time: f.time,
         classes: 0,
         slots: 0,
@@ -56,7 +56,7 @@ fn finished(classes: usize, slots: usize) -> Planned
         number: 0,
         place: 0,
         set: 0,
-        grams: 0,
+        weight: 0,
         time: 0,
         classes,
         slots,
@@ -75,10 +75,10 @@ fn write_order(
     ensures { λ r. ⌜ WritesOrder (asOrder o) (now (plan .entry)) (asPlanned r) (now (plan .exit)) ⌝ }
 {
     let numbers = tally.numbers;
-    let grams = tally.grams;
+    let weight = tally.weight;
     let time = tally.time;
     let instants = interval::instants_of(o);
-    let t = tables_of(o.count, instants, tally.class, numbers, grams, time);
+    let t = tables_of(o.count, instants, tally.class, numbers, weight, time);
     let slots = write_plan(plan, t, shares, reserved);
     finished(t.classes, slots)
 }

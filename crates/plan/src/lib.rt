@@ -24,7 +24,7 @@ pub struct Planned {
     pub number: u32,
     pub place: usize,
     pub set: u64,
-    pub grams: u64,
+    pub weight: u64,
     pub time: u64,
     pub classes: usize,
     pub slots: usize,

@@ -26,21 +26,21 @@ pub fn tables_of(
     s: Instants,
     classes: usize,
     class_of: [u32; MOST_DOSES],
-    grams: [u64; MOST_DOSES],
+    weight: [u64; MOST_DOSES],
     time: [u64; MOST_DOSES],
 ) -> Tables
-    ensures { λ r. ⌜ TablesOf doses s classes «class_of» grams time r ⌝ }
+    ensures { λ r. ⌜ TablesOf doses s classes «class_of» weight time r ⌝ }
 {
     let instants = s.at;
     let intervals = interval::interval_count(s);
-    let narrow_grams = narrow(grams);
+    let narrow_weight = narrow(weight);
     let narrow_time = narrow(time);
     Tables {
         doses,
         classes,
         intervals,
         instants,
-        grams: narrow_grams,
+        weight: narrow_weight,
         time: narrow_time,
         class_of,
     }

@@ -29,7 +29,7 @@ fn class_from(t: Tables, i: usize) -> Class
     Class {
         number: i as u32 + 1,
         doses: size_of(t.doses, set) as u32,
-        grams: t.grams[i],
+        weight: t.weight[i],
         time: t.time[i],
     }
 }

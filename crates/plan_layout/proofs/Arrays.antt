@@ -99,6 +99,6 @@ module _ {t : Tables} {x : List ℕ} {m : List (List ℕ)} (h : Filled t x m) wh
         below = omega (arith, below-at, g .below-is);
       };
       most = λ k o. h .most i k j q o p;
-      end = omega (arith, h .full i j q p, mul-le-mul-right {m = fansAt m i j} {n = 8} (lenAt t j * getD (t .grams) i 0) (omega (arith, below-at)));
+      end = omega (arith, h .full i j q p, mul-le-mul-right {m = fansAt m i j} {n = 8} (lenAt t j * getD (t .weight) i 0) (omega (arith, below-at)));
       room = omega (arith, s, ap length (interval-is t x m j), g .wrote .next, gather-fits (ofClass t x m j) (t .classes) i q);
     })

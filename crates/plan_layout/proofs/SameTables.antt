@@ -18,7 +18,7 @@ gather-same (suc n) h = rw (gather-same n (λ k l. h k (omega arith)), h n (omeg
 pub lane-shares-same : (l : Lane) {x y : ℕ → ℕ} (n : ℕ) → ((k : ℕ) → k < n → x k ≡ y k) → laneSlots l x n ≡ laneSlots l y n
 unfolding laneSlots line
 lane-shares-same l {x} {y} n h =
-    let each : (k : ℕ) → k < n → cut (l .len * l .grams) k (sum k x) (x k) ≡ cut (l .len * l .grams) k (sum k y) (y k) =
+    let each : (k : ℕ) → k < n → cut (l .len * l .weight) k (sum k x) (x k) ≡ cut (l .len * l .weight) k (sum k y) (y k) =
     λ k q. rw (sum-congr k {f = x} {g = y} (λ i r. h i (omega arith)), h k q) in
     rw (gather-same n each)
 
@@ -32,7 +32,7 @@ pub record SameTables (s t : Table) : Type 0 where
   pub J : s .J ≡ t .J
   pub start : (j : ℕ) → j < s .J → s .start j ≡ t .start j
   pub len : (j : ℕ) → j < s .J → s .len j ≡ t .len j
-  pub grams : (i : ℕ) → i < s .p → s .grams i ≡ t .grams i
+  pub weight : (i : ℕ) → i < s .p → s .weight i ≡ t .weight i
   pub time : (i : ℕ) → i < s .p → s .time i ≡ t .time i
   pub fans : (i j : ℕ) → i < s .p → j < s .J → s .fans i j ≡ t .fans i j
   pub share : (i k j : ℕ) → i < s .p → k < s .n → j < s .J → s .share i k j ≡ t .share i k j
@@ -40,7 +40,7 @@ pub record SameTables (s t : Table) : Type 0 where
 module _ {s t : Table} (h : SameTables s t) where
   lanes-same : (i j : ℕ) → i < s .p → j < s .J → lane s i j ≡ lane t i j
   lanes-same i j l r =
-      rw (h .start j r, h .len j r, h .grams i l, h .time i l, sum-congr i {f = λ a. s .fans a j} {g = λ a. t .fans a j} (λ a q. h .fans a j (omega arith) r))
+      rw (h .start j r, h .len j r, h .weight i l, h .time i l, sum-congr i {f = λ a. s .fans a j} {g = λ a. t .fans a j} (λ a q. h .fans a j (omega arith) r))
 
   -- give the same slots in each interval
   pub interval-same : (j : ℕ) → j < s .J → intervalSlots s j ≡ intervalSlots t j

@@ -6,7 +6,7 @@ use native.Mathlib.Nat.{div-le-of-le-mul, mod-lt, mul-le-mul-right, mul-pos}
 use native.Mathlib.Numerals.{add-one}
 use native.Mathlib.Omega.{arith}
 use lib.ListN.{length, length-map}
-use Rattle.model.specs.Limits.{mostClassGrams, mostFans, week}
+use Rattle.model.specs.Limits.{mostWeight, mostFans, week}
 use Rattle.records.specs.Written.{written}
 use Rattle.model.specs.Sets.{sum}
 use Rattle.model.specs.Lists.{gather}
@@ -18,66 +18,66 @@ use Rattle.plan_layout.specs.Laying.{Ready, Room, Rooms, Wrote}
 use Rattle.plan_layout.proofs.Runs.{gather-fits, gather-more, gather-none, wrote-more, wrote-none, wrote-one}
 
 -- a unit of a stretch is in the week
-pub tick : (l : Lane) → Ready l → (s : ℕ) → s ≤ l .len * l .grams → l .start + s / l .grams ≤ week
-tick l r s h = omega (arith, r .week, div-le-of-le-mul (l .grams) {m = s} {n = l .len} (omega arith))
+pub tick : (l : Lane) → Ready l → (s : ℕ) → s ≤ l .len * l .weight → l .start + s / l .weight ≤ week
+tick l r s h = omega (arith, r .week, div-le-of-le-mul (l .weight) {m = s} {n = l .len} (omega arith))
 
 -- ---- a share
 
 module _ {l : Lane} {k a x r size : ℕ} (h : Room l k a x r size) where
-  stretch : 0 < l .len * l .grams
+  stretch : 0 < l .len * l .weight
   stretch = mul-pos (h .ready .wide) (h .ready .heavy)
 
   -- what its numbers are at most
   pub record Small : Type 0 where
-    pub units : l .len * l .grams ≤ week * l .grams
-    pub some : 0 < l .len * l .grams
-    pub fan : a / (l .len * l .grams) ≤ mostFans
-    pub low : a % (l .len * l .grams) < l .len * l .grams
-    pub share : x ≤ l .len * l .grams
+    pub units : l .len * l .weight ≤ week * l .weight
+    pub some : 0 < l .len * l .weight
+    pub fan : a / (l .len * l .weight) ≤ mostFans
+    pub low : a % (l .len * l .weight) < l .len * l .weight
+    pub share : x ≤ l .len * l .weight
 
   pub small : Small
   small = record {
-    units = mul-le-mul-right (l .grams) (omega (arith, h .ready .week));
+    units = mul-le-mul-right (l .weight) (omega (arith, h .ready .week));
     some = stretch;
-    fan = div-le-of-le-mul (l .len * l .grams) {m = a} {n = 8} (omega (arith, h .end));
+    fan = div-le-of-le-mul (l .len * l .weight) {m = a} {n = 8} (omega (arith, h .end));
     low = mod-lt a stretch;
     share = h .most;
   }
 
   -- room for a share that is not cut
-  pub room-one : (x ≡ 0 → ⊥) → a % (l .len * l .grams) + x ≤ l .len * l .grams → 32 * r + 32 ≤ size
-  room-one n q = omega (arith, h .room, ap length (cut-uncut (l .len * l .grams) k a x (omega arith) q))
+  pub room-one : (x ≡ 0 → ⊥) → a % (l .len * l .weight) + x ≤ l .len * l .weight → 32 * r + 32 ≤ size
+  room-one n q = omega (arith, h .room, ap length (cut-uncut (l .len * l .weight) k a x (omega arith) q))
 
   -- and for one that is
-  pub room-two : (x ≡ 0 → ⊥) → l .len * l .grams < a % (l .len * l .grams) + x → 32 * r + 64 ≤ size
-  room-two n q = omega (arith, h .room, ap length (cut-two (l .len * l .grams) k a x (omega arith) q))
+  pub room-two : (x ≡ 0 → ⊥) → l .len * l .weight < a % (l .len * l .weight) + x → 32 * r + 64 ≤ size
+  room-two n q = omega (arith, h .room, ap length (cut-two (l .len * l .weight) k a x (omega arith) q))
 
 module _ (l : Lane) (k a x r : ℕ) (b : List ℕ) where
   -- what is promised of a share
   abbrev Laid : ℕ → List ℕ → Type 0
-  Laid q b′ = Wrote slotRecord (map (pieceSlot l) (cut (l .len * l .grams) k a x)) b r b′ q
+  Laid q b′ = Wrote slotRecord (map (pieceSlot l) (cut (l .len * l .weight) k a x)) b r b′ q
 
   pub laid-none : x ≡ 0 → Laid r b
-  laid-none e = rw (cut-none (l .len * l .grams) k a x e) (wrote-none b r)
+  laid-none e = rw (cut-none (l .len * l .weight) k a x e) (wrote-none b r)
 
-  pub laid-one : {b′ : List ℕ} {s : Slot} → (x ≡ 0 → ⊥) → a % (l .len * l .grams) + x ≤ l .len * l .grams → s ≡ pieceSlot l (uncut (l .len * l .grams) k a x)
+  pub laid-one : {b′ : List ℕ} {s : Slot} → (x ≡ 0 → ⊥) → a % (l .len * l .weight) + x ≤ l .len * l .weight → s ≡ pieceSlot l (uncut (l .len * l .weight) k a x)
       → b′ ≡ written b (32 * r) (planRecordBytes (slotRecord s)) → Laid (r + 1) b′
-  laid-one n q e f = rw (cut-uncut (l .len * l .grams) k a x (omega arith) q) (wrote-one e f)
+  laid-one n q e f = rw (cut-uncut (l .len * l .weight) k a x (omega arith) q) (wrote-one e f)
 
-  pub laid-two : {b₁ b′ : List ℕ} {s u : Slot} → (x ≡ 0 → ⊥) → l .len * l .grams < a % (l .len * l .grams) + x
-      → s ≡ pieceSlot l (before (l .len * l .grams) k a x) → u ≡ pieceSlot l (behind (l .len * l .grams) k a x)
+  pub laid-two : {b₁ b′ : List ℕ} {s u : Slot} → (x ≡ 0 → ⊥) → l .len * l .weight < a % (l .len * l .weight) + x
+      → s ≡ pieceSlot l (before (l .len * l .weight) k a x) → u ≡ pieceSlot l (behind (l .len * l .weight) k a x)
       → b₁ ≡ written b (32 * r) (planRecordBytes (slotRecord s)) → b′ ≡ written b₁ (32 * r + 32) (planRecordBytes (slotRecord u)) → Laid (r + 2) b′
   laid-two {b₁} {b′} {s} {u} n q d e f g =
       let second : b′ ≡ written b₁ (32 * (r + 1)) (planRecordBytes (slotRecord u)) = g ∙ ap (λ (at : ℕ). written b₁ at (planRecordBytes (slotRecord u))) (omega arith) in
       let next : r + 1 + 1 ≡ r + 2 = omega arith in
-      rw (cut-two (l .len * l .grams) k a x (omega arith) q, ← next) (wrote-more (wrote-one d f) (wrote-one e second))
+      rw (cut-two (l .len * l .weight) k a x (omega arith) q, ← next) (wrote-more (wrote-one d f) (wrote-one e second))
 
 -- ---- the shares of a class
 
 module _ (l : Lane) (x : ℕ → ℕ) where
   -- the slots of the share of dose k
   abbrev pub ofDose : ℕ → List Slot
-  ofDose k = map (pieceSlot l) (cut (l .len * l .grams) k (sum k x) (x k))
+  ofDose k = map (pieceSlot l) (cut (l .len * l .weight) k (sum k x) (x k))
 
   pub lane-doses : (n : ℕ) → laneSlots l x n ≡ gather n ofDose
   unfolding laneSlots line
@@ -93,7 +93,7 @@ module _ (l : Lane) (x : ℕ → ℕ) where
   kept-none b r = record { wrote = gather-none ofDose b r; sum-is = refl }
 
   pub kept-more : {b₀ b b′ : List ℕ} {r at at′ a k s : ℕ} → Kept b₀ r b at a k → s ≡ x k
-      → Wrote slotRecord (map (pieceSlot l) (cut (l .len * l .grams) k a s)) b at b′ at′ → Kept b₀ r b′ at′ (a + s) (k + 1)
+      → Wrote slotRecord (map (pieceSlot l) (cut (l .len * l .weight) k a s)) b at b′ at′ → Kept b₀ r b′ at′ (a + s) (k + 1)
   unfolding sum
   kept-more {k = k} h e f = record {
     wrote = gather-more ofDose k (h .wrote) (rw (h .sum-is, e) at f);
@@ -106,18 +106,18 @@ module _ (l : Lane) (x : ℕ → ℕ) where
       ready = h .ready;
       most = h .most k q;
       end = omega (arith, h .end, sum-before n x k q);
-      room = omega (arith, h .room, g .wrote .next, ap length (lane-doses n), gather-fits ofDose n k q, length-map (cut (l .len * l .grams) k (sum k x) (x k)) (pieceSlot l));
+      room = omega (arith, h .room, g .wrote .next, ap length (lane-doses n), gather-fits ofDose n k q, length-map (cut (l .len * l .weight) k (sum k x) (x k)) (pieceSlot l));
     })
 
     -- no sum of shares is too large for the code
-    pub sum-at : {s : ℕ} → k < n → s ≡ x k → a + s ≤ mostFans * (week * mostClassGrams)
+    pub sum-at : {s : ℕ} → k < n → s ≡ x k → a + s ≤ mostFans * (week * mostWeight)
     sum-at q e =
         omega (
           arith,
           g .sum-is,
           h .end,
           sum-before n x k q,
-          mul-le-mul-right {m = l .len} {n = week} (l .grams) (omega (arith, h .ready .week)),
+          mul-le-mul-right {m = l .len} {n = week} (l .weight) (omega (arith, h .ready .week)),
           h .ready .light,
         )
 

@@ -10,7 +10,7 @@ use Rattle.plan_layout.specs.declared.Lane.{Lane}
 use Rattle.plan_layout.specs.declared.Tables.{Tables}
 
 abbrev pub asLane : Lane → model.Lane
-asLane l = record { start = l .start; len = l .len; grams = l .grams; time = l .time; class = l .class; below = l .below }
+asLane l = record { start = l .start; len = l .len; weight = l .weight; time = l .time; class = l .class; below = l .below }
 
 -- instants bound the intervals: interval j ends where the next one starts
 abbrev pub lenAt : Tables → ℕ → ℕ
@@ -29,7 +29,7 @@ unfoldable pub laneAt : Tables → ℕ → ℕ → ℕ → model.Lane
 laneAt t i j below = record {
   start = getD (t .instants) j 0;
   len = lenAt t j;
-  grams = getD (t .grams) i 0;
+  weight = getD (t .weight) i 0;
   time = getD (t .time) i 0;
   class = i + 1;
   below = below;
@@ -43,7 +43,7 @@ tableFrom t shares reserved = record {
   J = t .intervals;
   start = λ j. getD (t .instants) j 0;
   len = lenAt t;
-  grams = λ i. getD (t .grams) i 0;
+  weight = λ i. getD (t .weight) i 0;
   time = λ i. getD (t .time) i 0;
   fans = fansAt reserved;
   share = shareAt t shares;

@@ -25,7 +25,7 @@ ghost use Rattle.plan_layout.specs.Laying.{Wrote, Ready, Room, Rooms, Fi
 pub struct Lane {
     pub start: u32,
     pub len: u32,
-    pub grams: u32,
+    pub weight: u32,
     pub time: u32,
     pub class: u32,
     pub below: u32,
@@ -38,17 +38,17 @@ pub struct Tables {
     pub classes: usize,
     pub intervals: usize,
     pub instants: [u32; MOST_INSTANTS],
-    pub grams: [u32; MOST_DOSES],
+    pub weight: [u32; MOST_DOSES],
     pub time: [u32; MOST_DOSES],
     pub class_of: [u32; MOST_DOSES],
 }
 
 // The slot from unit low up to unit high of a fan's stretch: "A moment is a tick plus part/W, part below W."
 fn slot_of(l: Lane, dose: u32, fan: u64, low: u64, high: u64) -> Slot
-    requires { ⌜ Ready (asLane l) × (fan ≤ 9) × (low ≤ l .len * l .grams) × (high ≤ l .len * l .grams) ⌝ }
+    requires { ⌜ Ready (asLane l) × (fan ≤ 9) × (low ≤ l .len * l .weight) × (high ≤ l .len * l .weight) ⌝ }
     ensures { λ r. ⌜ asSlot r ≡ pieceSlot (asLane l) (record { fan = fan; dose = dose; low = low; high = high }) ⌝ }
 {
-    let w = l.grams as u64;
+    let w = l.weight as u64;
     Slot {
         fan: l.below + fan as u32 + 1,
         dose,
@@ -56,7 +56,7 @@ fn slot_of(l: Lane, dose: u32, fan: u64, low: u64, high: u64) -> Slot
         start_part: (low % w) as u32,
         end_tick: l.start + (high / w) as u32,
         end_part: (high % w) as u32,
-        grams: l.grams,
+        weight: l.weight,
         time: l.time,
         class: l.class,
     }
@@ -66,12 +66,12 @@ fn slot_of(l: Lane, dose: u32, fan: u64, low: u64, high: u64) -> Slot
 // Gives back the next record's index.
 fn lay_share(b: &mut [u8], r: usize, l: Lane, dose: u32, a: u64, x: u64) -> usize
     requires { ⌜ Room (asLane l) dose a x r (length (now b)) ⌝ }
-    ensures { λ q. ⌜ Wrote slotRecord (map (pieceSlot (asLane l)) (cut (l .len * l .grams) dose a x)) (now (b .entry)) r (now (b .exit)) q ⌝ }
+    ensures { λ q. ⌜ Wrote slotRecord (map (pieceSlot (asLane l)) (cut (l .len * l .weight) dose a x)) (now (b .entry)) r (now (b .exit)) q ⌝ }
 {
     if x == 0 {
         return r;
     }
-    let c = (l.len as u64) * (l.grams as u64);
+    let c = (l.len as u64) * (l.weight as u64);
     let fan = a / c;
     let low = a % c;
     if low + x <= c {
@@ -133,7 +133,7 @@ fn lane_of(t: Tables, i: usize, j: usize, below: u32) -> Lane
     Lane {
         start,
         len: t.instants[j + 1] - start,
-        grams: t.grams[i],
+        weight: t.weight[i],
         time: t.time[i],
         class: i as u32 + 1,
         below,

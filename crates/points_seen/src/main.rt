@@ -58,7 +58,7 @@ fn put_slot(b: &mut [u8], at: usize, fan: u32, dose: u32, start: u32, end: u32, 
         start_part: 0,
         end_tick: end,
         end_part: 0,
-        grams: c.grams,
+        weight: c.weight,
         time: c.time,
         class: c.number,
     };
@@ -131,13 +131,13 @@ fn first_plan(p: &mut [u8; 128]) {
     let c = Class {
         number: 1,
         doses: 1,
-        grams: 16,
+        weight: 16,
         time: 4,
     };
     let d = Class {
         number: 2,
         doses: 1,
-        grams: 20,
+        weight: 20,
         time: 6,
     };
     put_class(p, 0, c);
@@ -158,7 +158,7 @@ fn second_plan(p: &mut [u8; 160]) {
     let c = Class {
         number: 1,
         doses: 3,
-        grams: 30,
+        weight: 30,
         time: 6,
     };
     put_class(p, 0, c);

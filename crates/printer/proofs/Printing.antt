@@ -27,9 +27,9 @@ few-records {order} (plans l o a p C c x v) =
 pub answer-length : (r : Planned) (plan : List ℕ) → length (answerText r plan) ≤ 160 * (r .classes + r .slots + 1)
 answer-length r plan = by-test (eqb (r .answer .number) 0)
   where
-    by-test : (b : Bool) → length (pick b (planText plan (r .classes) (r .slots)) (refusedText (r .answer .number) (r .answer .place) (r .answer .set) (r .answer .grams) (r .answer .time))) ≤ 160 * (r .classes + r .slots + 1)
+    by-test : (b : Bool) → length (pick b (planText plan (r .classes) (r .slots)) (refusedText (r .answer .number) (r .answer .place) (r .answer .set) (r .answer .weight) (r .answer .time))) ≤ 160 * (r .classes + r .slots + 1)
     by-test true = plan-text-length plan (r .classes) (r .slots)
-    by-test false = omega (arith, refused-length (r .answer .number) (r .answer .place) (r .answer .set) (r .answer .grams) (r .answer .time))
+    by-test false = omega (arith, refused-length (r .answer .number) (r .answer .place) (r .answer .set) (r .answer .weight) (r .answer .time))
 
 -- an answer whose text was put, and of which it is told whether it is a refusal
 pub prints : {order before after text text′ : List ℕ} {r : Planned} {planned : Bool} {end : ℕ}

@@ -14,7 +14,7 @@ use Rattle.lines.specs.Text.{Put, planText, refusedText}
 abbrev pub answerText : Planned → List ℕ → List ℕ
 answerText r plan =
     pick (eqb (r .answer .number) 0) (planText plan (r .classes) (r .slots))
-    (refusedText (r .answer .number) (r .answer .place) (r .answer .set) (r .answer .grams) (r .answer .time))
+    (refusedText (r .answer .number) (r .answer .place) (r .answer .set) (r .answer .weight) (r .answer .time))
 
 -- the order is planned, the text of the answer stands in front of the text buffer, and it is told whether the order was refused
 pub record Prints (order before after text text′ : List ℕ) (planned : Bool) (end : ℕ) : Type 0 where

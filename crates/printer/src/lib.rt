@@ -78,7 +78,7 @@ fn put_answer(p: Planned, plan: &[u8], text: &mut [u8]) -> usize
             p.number as u64,
             p.place as u64,
             p.set,
-            p.grams,
+            p.weight,
             p.time,
             text,
         );

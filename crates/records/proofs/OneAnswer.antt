@@ -8,7 +8,7 @@ use Rattle.records.specs.declared.plan_records.Class.{Class}
 use Rattle.records.specs.declared.plan_records.Slot.{Slot}
 
 abbrev heldClass : plans.Class → Class
-heldClass c = record { number = c .number; doses = c .doses; grams = c .grams; time = c .time }
+heldClass c = record { number = c .number; doses = c .doses; weight = c .weight; time = c .time }
 
 abbrev heldSlot : plans.Slot → Slot
 heldSlot s = record {
@@ -18,7 +18,7 @@ heldSlot s = record {
   «start_part» = s .startPart;
   «end_tick» = s .endTick;
   «end_part» = s .endPart;
-  grams = s .grams;
+  weight = s .weight;
   time = s .time;
   class = s .class;
 }

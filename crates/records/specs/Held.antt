@@ -34,7 +34,7 @@ doseBytes d = recordBytes doseParts (doseKind ∷ d .bay ∷ d .release ∷ d .d
 -- ---- C and S
 
 abbrev pub asClass : Class → plans.Class
-asClass c = record { number = c .number; doses = c .doses; grams = c .grams; time = c .time }
+asClass c = record { number = c .number; doses = c .doses; weight = c .weight; time = c .time }
 
 abbrev pub asSlot : Slot → plans.Slot
 asSlot s = record {
@@ -44,7 +44,7 @@ asSlot s = record {
   startPart = s .«start_part»;
   endTick = s .«end_tick»;
   endPart = s .«end_part»;
-  grams = s .grams;
+  weight = s .weight;
   time = s .time;
   class = s .class;
 }

@@ -23,7 +23,7 @@ ghost use Rattle.records.specs.Held.{asClass, asSlot};
 pub struct Class {
     pub number: u32,
     pub doses: u32,
-    pub grams: u32,
+    pub weight: u32,
     pub time: u32,
 }
 
@@ -35,30 +35,30 @@ pub struct Slot {
     pub start_part: u32,
     pub end_tick: u32,
     pub end_part: u32,
-    pub grams: u32,
+    pub weight: u32,
     pub time: u32,
     pub class: u32,
 }
 
 // A moment in units of 1/W: "A moment is a tick plus part/W".
-pub fn moment(tick: u32, part: u32, grams: u32) -> u64
-    ensures { λ r. ⌜ r ≡ tick * grams + part ⌝ }
+pub fn moment(tick: u32, part: u32, weight: u32) -> u64
+    ensures { λ r. ⌜ r ≡ tick * weight + part ⌝ }
 {
-    (tick as u64) * (grams as u64) + part as u64
+    (tick as u64) * (weight as u64) + part as u64
 }
 
 // Where a slot starts.
 pub fn starts(s: Slot) -> u64
     ensures { λ r. ⌜ r ≡ stands.starts (asSlot s) ⌝ }
 {
-    moment(s.start_tick, s.start_part, s.grams)
+    moment(s.start_tick, s.start_part, s.weight)
 }
 
 // Where it ends.
 pub fn ends(s: Slot) -> u64
     ensures { λ r. ⌜ r ≡ stands.ends (asSlot s) ⌝ }
 {
-    moment(s.end_tick, s.end_part, s.grams)
+    moment(s.end_tick, s.end_part, s.weight)
 }
 
 // Reads a C record.
@@ -69,7 +69,7 @@ pub fn class_in(r: &[u8]) -> Class
     Class {
         number: read8(r, 1),
         doses: read16(r, 2),
-        grams: read32(r, 4),
+        weight: read32(r, 4),
         time: read32(r, 8),
     }
 }
@@ -86,7 +86,7 @@ pub fn slot_in(r: &[u8]) -> Slot
         start_part: read32(r, 8),
         end_tick: read32(r, 12),
         end_part: read32(r, 16),
-        grams: read32(r, 20),
+        weight: read32(r, 20),
         time: read32(r, 24),
         class: read8(r, 28),
     }
@@ -124,7 +124,7 @@ pub fn put_class(b: &mut [u8], at: usize, c: Class)
     ensures { λ _. ⌜ now (b .exit) ≡ written (now (b .entry)) at (planRecordBytes (classRecord (asClass c))) ⌝ }
 {
     put_head(b, at, CLASS_KIND, c.number, c.doses);
-    put_pair(b, at + 4, c.grams, c.time);
+    put_pair(b, at + 4, c.weight, c.time);
     put_blank(b, at + 12, 20);
 }
 
@@ -136,7 +136,7 @@ pub fn put_slot(b: &mut [u8], at: usize, s: Slot)
     put_head(b, at, SLOT_KIND, s.fan, s.dose);
     put_pair(b, at + 4, s.start_tick, s.start_part);
     put_pair(b, at + 12, s.end_tick, s.end_part);
-    put_pair(b, at + 20, s.grams, s.time);
+    put_pair(b, at + 20, s.weight, s.time);
     put8(b, at + 28, s.class);
     put_blank(b, at + 29, 3);
 }

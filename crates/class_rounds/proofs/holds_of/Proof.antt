@@ -5,7 +5,7 @@ use lib.ListN.{getD}
 use native.Mathlib.Omega.{arith}
 use borrow.Author.Needs.{needs}
 use native.Mathlib.Nat.{mul-le-mul}
-use Rattle.model.specs.Limits.{mostClassGrams, mostIntervals, week}
+use Rattle.model.specs.Limits.{mostWeight, mostIntervals, week}
 use Rattle.order_arrays.proofs.Laws.{DoneTo, done-none, done-next, done-all}
 use Rattle.class_rounds.proofs.holds_of.Statement.{statement}
 use Rattle.class_rounds.proofs.holds_of.Tie as tie
@@ -35,14 +35,14 @@ mul-holds-3 : tie.Need-mul-holds-3 Inv-loop μ-loop
 mul-holds-3 c =
     let A = c .before .before .before .args in
     let L = c .before .before .loop in
-    let t : getD (A .lens .now) (L .j) 0 * A .w ≤ week * mostClassGrams = mul-le-mul (c .before .before .before .pre .0 (L .j)) (c .before .before .before .pre .2) in
+    let t : getD (A .lens .now) (L .j) 0 * A .w ≤ week * mostWeight = mul-le-mul (c .before .before .before .pre .0 (L .j)) (c .before .before .before .pre .2) in
     omega arith
 
 mul-holds-4 : tie.Need-mul-holds-4 Inv-loop μ-loop
 mul-holds-4 c =
     let A = c .before .before .before .args in
     let L = c .before .before .loop in
-    let t : getD (A .lens .now) (L .j) 0 * A .w ≤ week * mostClassGrams = mul-le-mul (c .before .before .before .pre .0 (L .j)) (c .before .before .before .pre .2) in
+    let t : getD (A .lens .now) (L .j) 0 * A .w ≤ week * mostWeight = mul-le-mul (c .before .before .before .pre .0 (L .j)) (c .before .before .before .pre .2) in
     omega (arith, mul-le-mul (c .before .before .before .pre .1 (L .j)) t)
 
 mul-holds-5 : tie.Need-mul-holds-5 Inv-loop μ-loop

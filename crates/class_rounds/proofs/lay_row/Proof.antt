@@ -6,7 +6,7 @@ use lib.ListN.{length, getD, length-set}
 use native.Mathlib.Nat.{mul-le-mul}
 use native.Mathlib.Omega.{arith}
 use borrow.Author.Needs.{needs}
-use Rattle.model.specs.Limits.{cells, mostClassGrams, mostIntervals, week}
+use Rattle.model.specs.Limits.{cells, mostWeight, mostIntervals, week}
 use Rattle.model.specs.Sets.{on}
 use Rattle.class_rounds.specs.Rounds.{RoomsTo}
 use Rattle.steps.proofs.Loops.{stored}
@@ -43,7 +43,7 @@ element-copy-out-on-2 c = search needs
 
 mul-on-2 : tie.Need-mul-on-2 Inv-loop μ-loop
 mul-on-2 c =
-    let t : getD (c .before .before .before .before .args .lens .now) (c .before .before .before .loop .j) 0 * c .before .before .before .before .args .w ≤ week * mostClassGrams = mul-le-mul (c .before .before .before .before .pre .1 (c .before .before .before .loop .j)) (c .before .before .before .before .pre .2) in
+    let t : getD (c .before .before .before .before .args .lens .now) (c .before .before .before .loop .j) 0 * c .before .before .before .before .args .w ≤ week * mostWeight = mul-le-mul (c .before .before .before .before .pre .1 (c .before .before .before .loop .j)) (c .before .before .before .before .pre .2) in
     omega (arith, c .before .before .before .before .pre .1 (c .before .before .before .loop .j))
 
 on-requires : tie.Need-on-requires Inv-loop μ-loop

@@ -1,4 +1,4 @@
--- `next_class` meets its contract: the set stays a candidate from round to round, and its grams fall.
+-- `next_class` meets its contract: the set stays a candidate from round to round, and its weight falls.
 use Prim.Native.Nat.{ℕ}
 use mathlib.Core.Path.{_≡_}
 use lib.Dec.{T}

@@ -3,13 +3,13 @@ use mathlib.Core.Path.{refl}
 use native.Mathlib.Omega.{arith}
 use borrow.Author.Needs.{needs}
 use Rattle.order_arrays.specs.Arrays.{setOf, rowOf}
-use Rattle.measure.proofs.Laws.{grams-most, measured, measured-same, time-most}
+use Rattle.measure.proofs.Laws.{W-most, measured, measured-same, time-most}
 use Rattle.class_rounds.proofs.OneRound.{tried}
 use Rattle.class_rounds.proofs.try_candidate.Statement.{statement}
 use Rattle.class_rounds.proofs.try_candidate.Tie as tie
 
-grams-of-requires : tie.Need-grams-of-requires
-grams-of-requires c κs = search needs
+weight-of-requires : tie.Need-weight-of-requires
+weight-of-requires c κs = search needs
 
 open-fans-requires : tie.Need-open-fans-requires
 open-fans-requires c κs = search needs
@@ -22,13 +22,13 @@ lay-rooms-requires : tie.Need-lay-rooms-requires
 lay-rooms-requires c κs =
     let start = c .before .before .before .before .before in
     let arrays = start .pre .1 in
-    (search needs, arrays .short, omega (arith, c .before .before .before .grams-of .ensures, grams-most arrays (setOf (start .args .set))))
+    (search needs, arrays .short, omega (arith, c .before .before .before .weight-of .ensures, W-most arrays (setOf (start .args .set))))
 
 holds-of-requires : tie.Need-holds-of-requires
 holds-of-requires c κs =
     let start = c .before .before .before .before .before .before in
     let arrays = start .pre .1 in
-    (arrays .short, c .before .before .before .open-fans .ensures .small, omega (arith, c .before .before .before .before .grams-of .ensures, grams-most arrays (setOf (start .args .set))))
+    (arrays .short, c .before .before .before .open-fans .ensures .small, omega (arith, c .before .before .before .before .weight-of .ensures, W-most arrays (setOf (start .args .set))))
 
 -- and P
 needs-of-requires : tie.Need-needs-of-requires
@@ -67,7 +67,7 @@ returns c =
     let start = c .before .before .before .before .before .before .before .before .before .before .before .before .before .before .before .before .before .before .before in
     let A = start .args in
     let arrays = start .pre .1 in
-    let weighed = c .before .before .before .before .before .before .before .before .before .before .before .before .before .before .before .before .before .grams-of in
+    let weighed = c .before .before .before .before .before .before .before .before .before .before .before .before .before .before .before .before .before .weight-of in
     let opened = c .before .before .before .before .before .before .before .before .before .before .before .before .before .before .before .before .open-fans in
     let timed = c .before .before .before .before .before .before .before .before .before .before .before .before .before .before .before .fan-time in
     let roomy = c .before .before .before .before .before .before .before .before .before .before .before .before .before .lay-rooms .ensures .1 in
@@ -83,7 +83,7 @@ pub try-candidate-spec : {M : Type 1} → statement M
 try-candidate-spec =
     tie.close
     (tie.spec
-    grams-of-requires
+    weight-of-requires
     open-fans-requires
     fan-time-requires
     lay-rooms-requires

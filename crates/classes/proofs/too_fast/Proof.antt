@@ -8,7 +8,7 @@ use Rattle.model.specs.Classes.{setNumber}
 use Rattle.order.specs.Held.{asOrder}
 use Rattle.order_arrays.specs.Arrays.{setsOf}
 use Rattle.order.proofs.Fields.{doses-is, top-grams-is, top-seconds-is, few-doses}
-use Rattle.classes.proofs.OverTop.{no-first, grams-fit, time-fit, slow-if, too-fast-above, too-fast-not}
+use Rattle.classes.proofs.OverTop.{no-first, weight-fit, time-fit, slow-if, too-fast-above, too-fast-not}
 use Rattle.classes.proofs.too_fast.Statement.{statement}
 use Rattle.classes.proofs.too_fast.Tie as tie
 
@@ -30,7 +30,7 @@ cast-excess : tie.Need-cast-excess
 cast-excess c =
     let A = c .before .before .before .args in
     let some : 0 < A .t2 .class = omega (arith, c .before .before .if1 .left) in
-    omega (arith, grams-fit (asOrder (A .o)) (c .before .before .before .pre .0) (A .t2) (c .before .before .before .pre .1) some)
+    omega (arith, weight-fit (asOrder (A .o)) (c .before .before .before .pre .0) (A .t2) (c .before .before .before .pre .1) some)
 
 cast-excess-2 : tie.Need-cast-excess-2
 cast-excess-2 c =
@@ -50,7 +50,7 @@ returns-2 c =
     let fit = c .before .before .before .before .before .before .pre .0 in
     let of = c .before .before .before .before .before .before .pre .1 in
     let some : 0 < A .t2 .class = omega (arith, c .before .before .before .before .before .if1 .left) in
-    let h : getD (A .t2 .grams) 0 0 * asOrder (A .o) .topSeconds ≤ getD (A .t2 .time) 0 0 * asOrder (A .o) .topGrams = omega (arith, c .before .if2 .taken, c .before .before .excess .ensures, ap (λ (y : ℕ). getD (A .t2 .grams) 0 0 * y) (top-seconds-is (A .o)), ap (λ (y : ℕ). getD (A .t2 .time) 0 0 * y) (top-grams-is (A .o))) in
+    let h : getD (A .t2 .weight) 0 0 * asOrder (A .o) .topSeconds ≤ getD (A .t2 .time) 0 0 * asOrder (A .o) .topGrams = omega (arith, c .before .if2 .taken, c .before .before .excess .ensures, ap (λ (y : ℕ). getD (A .t2 .weight) 0 0 * y) (top-seconds-is (A .o)), ap (λ (y : ℕ). getD (A .t2 .time) 0 0 * y) (top-grams-is (A .o))) in
     too-fast-not (asOrder (A .o)) fit (A .t2) of _ (c .not-above2 .ensures) (slow-if (asOrder (A .o)) fit (A .t2) of some h)
 
 first-set-requires : tie.Need-first-set-requires
@@ -62,7 +62,7 @@ returns-3 c =
     let fit = c .before .before .before .before .before .before .before .pre .0 in
     let of = c .before .before .before .before .before .before .before .pre .1 in
     let some : 0 < A .t2 .class = omega (arith, c .before .before .before .before .before .before .if1 .left) in
-    let h : getD (A .t2 .time) 0 0 * asOrder (A .o) .topGrams < getD (A .t2 .grams) 0 0 * asOrder (A .o) .topSeconds = omega (arith, c .before .before .if2 .left, c .before .before .before .excess .ensures, ap (λ (y : ℕ). getD (A .t2 .grams) 0 0 * y) (top-seconds-is (A .o)), ap (λ (y : ℕ). getD (A .t2 .time) 0 0 * y) (top-grams-is (A .o))) in
+    let h : getD (A .t2 .time) 0 0 * asOrder (A .o) .topGrams < getD (A .t2 .weight) 0 0 * asOrder (A .o) .topSeconds = omega (arith, c .before .before .if2 .left, c .before .before .before .excess .ensures, ap (λ (y : ℕ). getD (A .t2 .weight) 0 0 * y) (top-seconds-is (A .o)), ap (λ (y : ℕ). getD (A .t2 .time) 0 0 * y) (top-grams-is (A .o))) in
     too-fast-above (asOrder (A .o)) fit (A .t2) of some (c .first-set .result) (c .first-set .ensures ∙ ap (λ (m : ℕ). setNumber m (setsOf (A .t2 .numbers) 0)) (doses-is (A .o))) h
 
 pub too-fast-spec : {M : Type 1} → statement M

@@ -6,10 +6,10 @@ use Rattle.classes_seen.proofs.dose_served.Statement.{statement}
 use Rattle.classes_seen.proofs.dose_served.Tie as tie
 
 abbrev Inv-loop : tie.InvT-loop
-Inv-loop o s t shares k i grams sum₀ j₀ sum j = j ≤ mostIntervals
+Inv-loop o s t shares k i weight sum₀ j₀ sum j = j ≤ mostIntervals
 
 abbrev μ-loop : tie.MeasureT-loop
-μ-loop o s t shares k i grams sum₀ j₀ sum j = mostIntervals - j
+μ-loop o s t shares k i weight sum₀ j₀ sum j = mostIntervals - j
 
 class-of-requires : tie.Need-class-of-requires Inv-loop μ-loop
 class-of-requires c κs = search needs

@@ -157,19 +157,19 @@ same-list same h (a ∷ l) (b ∷ m) t =
 pub same-class : (a b : Class) → T (sameClass a b) → a ≡ b
 unfolding sameClass
 same-class a b t =
-    let r = four (eqb (a .number) (b .number)) (eqb (a .doses) (b .doses)) (eqb (a .grams) (b .grams)) (eqb (a .time) (b .time)) t in
+    let r = four (eqb (a .number) (b .number)) (eqb (a .doses) (b .doses)) (eqb (a .weight) (b .weight)) (eqb (a .time) (b .time)) t in
     let number = eqb→eq (a .number) (b .number) (r .0) in
     let doses = eqb→eq (a .doses) (b .doses) (r .1) in
-    let grams = eqb→eq (a .grams) (b .grams) (r .2) in
+    let weight = eqb→eq (a .weight) (b .weight) (r .2) in
     let time = eqb→eq (a .time) (b .time) (r .3) in
-    λ i. record { number = number i; doses = doses i; grams = grams i; time = time i }
+    λ i. record { number = number i; doses = doses i; weight = weight i; time = time i }
 
 pub same-slot : (a b : Slot) → T (sameSlot a b) → a ≡ b
 unfolding sameSlot
 same-slot a b t =
     let r = three (eqb (a .fan) (b .fan) && eqb (a .dose) (b .dose) && eqb (a .class) (b .class))
     (eqb (a .startTick) (b .startTick) && eqb (a .startPart) (b .startPart) && eqb (a .endTick) (b .endTick) && eqb (a .endPart) (b .endPart))
-    (eqb (a .grams) (b .grams) && eqb (a .time) (b .time)) t in
+    (eqb (a .weight) (b .weight) && eqb (a .time) (b .time)) t in
     let x = three (eqb (a .fan) (b .fan)) (eqb (a .dose) (b .dose)) (eqb (a .class) (b .class)) (r .0) in
     let y = four (eqb (a .startTick) (b .startTick)) (eqb (a .startPart) (b .startPart)) (eqb (a .endTick) (b .endTick)) (eqb (a .endPart) (b .endPart)) (r .1) in
     let fan = eqb→eq (a .fan) (b .fan) (x .0) in
@@ -179,8 +179,8 @@ same-slot a b t =
     let startPart = eqb→eq (a .startPart) (b .startPart) (y .1) in
     let endTick = eqb→eq (a .endTick) (b .endTick) (y .2) in
     let endPart = eqb→eq (a .endPart) (b .endPart) (y .3) in
-    let grams = eqb→eq (a .grams) (b .grams) (and-left (eqb (a .grams) (b .grams)) (eqb (a .time) (b .time)) (r .2)) in
-    let time = eqb→eq (a .time) (b .time) (and-right (eqb (a .grams) (b .grams)) (eqb (a .time) (b .time)) (r .2)) in
+    let weight = eqb→eq (a .weight) (b .weight) (and-left (eqb (a .weight) (b .weight)) (eqb (a .time) (b .time)) (r .2)) in
+    let time = eqb→eq (a .time) (b .time) (and-right (eqb (a .weight) (b .weight)) (eqb (a .time) (b .time)) (r .2)) in
     λ i. record {
       fan = fan i;
       dose = dose i;
@@ -188,7 +188,7 @@ same-slot a b t =
       startPart = startPart i;
       endTick = endTick i;
       endPart = endPart i;
-      grams = grams i;
+      weight = weight i;
       time = time i;
       class = class i;
     }
@@ -210,14 +210,14 @@ same-point a b t =
 pub same-answer : (a b : Answer) → T (sameAnswer a b) → a ≡ b
 unfolding sameAnswer
 same-answer a b t =
-    let r = three (eqb (a .number) (b .number)) (eqb (a .place) (b .place)) (eqb (a .set) (b .set) && eqb (a .grams) (b .grams) && eqb (a .time) (b .time)) t in
-    let x = three (eqb (a .set) (b .set)) (eqb (a .grams) (b .grams)) (eqb (a .time) (b .time)) (r .2) in
+    let r = three (eqb (a .number) (b .number)) (eqb (a .place) (b .place)) (eqb (a .set) (b .set) && eqb (a .weight) (b .weight) && eqb (a .time) (b .time)) t in
+    let x = three (eqb (a .set) (b .set)) (eqb (a .weight) (b .weight)) (eqb (a .time) (b .time)) (r .2) in
     let number = eqb→eq (a .number) (b .number) (r .0) in
     let place = eqb→eq (a .place) (b .place) (r .1) in
     let set = eqb→eq (a .set) (b .set) (x .0) in
-    let grams = eqb→eq (a .grams) (b .grams) (x .1) in
+    let weight = eqb→eq (a .weight) (b .weight) (x .1) in
     let time = eqb→eq (a .time) (b .time) (x .2) in
-    λ i. record { number = number i; place = place i; set = set i; grams = grams i; time = time i }
+    λ i. record { number = number i; place = place i; set = set i; weight = weight i; time = time i }
 
 pub empty-list : {A : Type 0} (l : List A) → T (emptyList l) → l ≡ []
 unfolding emptyList

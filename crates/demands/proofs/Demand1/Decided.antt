@@ -110,9 +110,9 @@ all-units (a ∷ l) = also tt (all-units l)
 dec-class : (c c′ : Class) → Dec (c ≡ c′)
 dec-class c c′ =
     map-dec
-    (λ r. λ t. record { number = r .0 t; doses = r .1 .0 t; grams = r .1 .1 .0 t; time = r .1 .1 .1 t })
-    (λ e. (ap (λ (x : Class). x .number) e, (ap (λ (x : Class). x .doses) e, (ap (λ (x : Class). x .grams) e, ap (λ (x : Class). x .time) e))))
-    (Dec·and (ℕ-discrete (c .number) (c′ .number)) (Dec·and (ℕ-discrete (c .doses) (c′ .doses)) (Dec·and (ℕ-discrete (c .grams) (c′ .grams)) (ℕ-discrete (c .time) (c′ .time)))))
+    (λ r. λ t. record { number = r .0 t; doses = r .1 .0 t; weight = r .1 .1 .0 t; time = r .1 .1 .1 t })
+    (λ e. (ap (λ (x : Class). x .number) e, (ap (λ (x : Class). x .doses) e, (ap (λ (x : Class). x .weight) e, ap (λ (x : Class). x .time) e))))
+    (Dec·and (ℕ-discrete (c .number) (c′ .number)) (Dec·and (ℕ-discrete (c .doses) (c′ .doses)) (Dec·and (ℕ-discrete (c .weight) (c′ .weight)) (ℕ-discrete (c .time) (c′ .time)))))
 
 -- records are those classes, and slots behind them
 dec-records : (classes : List Class) (rs : List PlanRecord) → Dec ((slots : List Slot) × (rs ≡ planOf classes slots))
@@ -136,13 +136,13 @@ dec-records (c ∷ classes) (classRecord c′ ∷ rs) =
 
 dec-between : (from to : ℕ) (s : Slot) → Dec (Between from to s)
 dec-between from to s =
-    map-dec (λ r. record { low = r .0; high = r .1 }) (λ b. (b .low, b .high)) (Dec·and (decLe (from * s .grams) (starts s)) (decLe (ends s) (to * s .grams)))
+    map-dec (λ r. record { low = r .0; high = r .1 }) (λ b. (b .low, b .high)) (Dec·and (decLe (from * s .weight) (starts s)) (decLe (ends s) (to * s .weight)))
 
 dec-apart : (s u : Slot) → Dec (NoOverlap s u)
 dec-apart s u = dec-or (ends-by s u) (ends-by u s)
   where
     ends-by : (s u : Slot) → Dec (EndsBy s u)
-    ends-by s u = map-dec (λ h. record { by = h }) (λ e. e .by) (decLe (ends s * u .grams) (starts u * s .grams))
+    ends-by s u = map-dec (λ h. record { by = h }) (λ e. e .by) (decLe (ends s * u .weight) (starts u * s .weight))
 
 module _ (o : Order) where
   abbrev S : Setting
@@ -154,19 +154,19 @@ module _ (o : Order) where
   -- a slot that ends after 0 lies in no interval past the last
   in-intervals : (j : ℕ) (s : Slot) → starts s < ends s → InInterval o j s → j < J
   in-intervals j s l b = elim (compare≤ (length (instants (o .doses))) (j + 1)) [
-    | inl h ↦ absurd (omega (arith, b .high, ap (λ (t : ℕ). t * s .grams) (List·getD-eq-default (instants (o .doses)) 0 h)))
+    | inl h ↦ absurd (omega (arith, b .high, ap (λ (t : ℕ). t * s .weight) (List·getD-eq-default (instants (o .doses)) 0 h)))
     | inr h ↦ omega arith
   ]
 
   module _ (p : ℕ) (C : ℕ → Doses) where
     -- a slot's class
     abbrev OfClass : Slot → ℕ → Type 0
-    OfClass s i = (s .class ≡ i + 1) × (T (C i (s .dose)) × ((s .grams ≡ W S (C i)) × (s .time ≡ classP S (fansPresent o) C i)))
+    OfClass s i = (s .class ≡ i + 1) × (T (C i (s .dose)) × ((s .weight ≡ W S (C i)) × (s .time ≡ classP S (fansPresent o) C i)))
 
     -- what it has by itself
     abbrev ByItself : Slot → Type 0
     ByItself s =
-        (s .dose < S .doses) × ((1 ≤ s .fan) × ((s .fan ≤ o .fans) × ((s .startPart < s .grams) × ((s .endPart < s .grams) × ((starts s < ends s)
+        (s .dose < S .doses) × ((1 ≤ s .fan) × ((s .fan ≤ o .fans) × ((s .startPart < s .weight) × ((s .endPart < s .weight) × ((starts s < ends s)
         × Between (doseAt o (s .dose) .release) (doseAt o (s .dose) .deadline) s)))))
 
     dec-named : (s : Slot) → Dec (Named o p C s)
@@ -178,7 +178,7 @@ module _ (o : Order) where
           number = r .1 .0 .2 .0;
           known = r .1 .0 .1;
           member = r .1 .0 .2 .1 .0;
-          grams = r .1 .0 .2 .1 .1 .0;
+          weight = r .1 .0 .2 .1 .1 .0;
           time = r .1 .0 .2 .1 .1 .1;
           fan-from = r .0 .1 .0;
           fan-to = r .0 .1 .1 .0;
@@ -192,24 +192,24 @@ module _ (o : Order) where
         })
         (λ n. (
           (n .dose, (n .fan-from, (n .fan-to, (n .start-part, (n .end-part, (n .long, n .window)))))),
-          ((n .class, n .known, (n .number, (n .member, (n .grams, n .time)))), (n .interval, n .in-order, n .in-interval)),
+          ((n .class, n .known, (n .number, (n .member, (n .weight, n .time)))), (n .interval, n .in-order, n .in-interval)),
         ))
         (Dec·and by-itself (Dec·and (dec-some (OfClass s) of-class p) (dec-some (λ j. InInterval o j s) (λ j. dec-between _ _ s) J)))
       where
         of-class : (i : ℕ) → Dec (OfClass s i)
         of-class i =
             Dec·and (ℕ-discrete (s .class) (i + 1)) (Dec·and (dec-test (C i (s .dose)))
-            (Dec·and (ℕ-discrete (s .grams) (W S (C i))) (ℕ-discrete (s .time) (classP S (fansPresent o) C i))))
+            (Dec·and (ℕ-discrete (s .weight) (W S (C i))) (ℕ-discrete (s .time) (classP S (fansPresent o) C i))))
 
         by-itself : Dec (ByItself s)
         by-itself =
-            Dec·and (decLt (s .dose) (S .doses)) (Dec·and (decLe 1 (s .fan)) (Dec·and (decLe (s .fan) (o .fans)) (Dec·and (decLt (s .startPart) (s .grams))
-            (Dec·and (decLt (s .endPart) (s .grams)) (Dec·and (decLt (starts s) (ends s)) (dec-between _ _ s))))))
+            Dec·and (decLt (s .dose) (S .doses)) (Dec·and (decLe 1 (s .fan)) (Dec·and (decLe (s .fan) (o .fans)) (Dec·and (decLt (s .startPart) (s .weight))
+            (Dec·and (decLt (s .endPart) (s .weight)) (Dec·and (decLt (starts s) (ends s)) (dec-between _ _ s))))))
 
     -- two slots in one interval, by fan or by start
     abbrev Behind : Slot → Slot → ℕ → Type 0
     Behind s u j =
-        InInterval o j s × (InInterval o j u × ((s .fan < u .fan) ⊎ ((s .fan ≡ u .fan) × (starts s * u .grams < starts u * s .grams))))
+        InInterval o j s × (InInterval o j u × ((s .fan < u .fan) ⊎ ((s .fan ≡ u .fan) × (starts s * u .weight < starts u * s .weight))))
 
     -- or in two
     abbrev Later : Slot → Slot → ℕ → ℕ → Type 0
@@ -229,7 +229,7 @@ module _ (o : Order) where
         behind : (j : ℕ) → Dec (Behind s u j)
         behind j =
             Dec·and (at j s) (Dec·and (at j u)
-            (dec-or (decLt (s .fan) (u .fan)) (Dec·and (ℕ-discrete (s .fan) (u .fan)) (decLt (starts s * u .grams) (starts u * s .grams)))))
+            (dec-or (decLt (s .fan) (u .fan)) (Dec·and (ℕ-discrete (s .fan) (u .fan)) (decLt (starts s * u .weight) (starts u * s .weight)))))
 
         from : ((i : ℕ) × (i < J) × ((j : ℕ) × (j < J) × Later s u i j)) ⊎ ((j : ℕ) × (j < J) × Behind s u j) → InOrder o s u
         from (inl r) = let q = r .2 in by-interval (r .0) (q .0) (q .2 .0) (q .2 .1 .0) (q .2 .1 .1)
@@ -272,7 +272,7 @@ module _ (o : Order) where
           number = n .number;
           known = m .0;
           member = m .1;
-          grams = n .grams ∙ r .0;
+          weight = n .weight ∙ r .0;
           time = n .time ∙ r .1;
           fan-from = n .fan-from;
           fan-to = n .fan-to;

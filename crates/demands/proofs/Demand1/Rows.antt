@@ -164,17 +164,17 @@ module _ {order plan : List ℕ} where
 pub record OnlyMeant (a : Answer) : Type 0 where
   pub place : a .number ≢ 3 → a .number ≢ 4 → a .number ≢ 5 → a .number ≢ 8 → a .place ≡ 0
   pub set : a .number ≢ 9 → a .set ≡ 0
-  pub grams : a .number ≢ 9 → a .grams ≡ 0
+  pub weight : a .number ≢ 9 → a .weight ≡ 0
   pub time : a .number ≢ 9 → a .time ≡ 0
 
 no-place : (number : ℕ) → OnlyMeant (refusal number 0)
-no-place number = record { place = λ a b c d. refl; set = λ n. refl; grams = λ n. refl; time = λ n. refl }
+no-place number = record { place = λ a b c d. refl; set = λ n. refl; weight = λ n. refl; time = λ n. refl }
 
 refused-meant : {order : List ℕ} {a : Answer} → Refuses order a → OnlyMeant a
 refused-meant {order} (unread number place e) =
-    record { place = row-place (given-exactly order number place .0 e); set = λ n. refl; grams = λ n. refl; time = λ n. refl }
+    record { place = row-place (given-exactly order number place .0 e); set = λ n. refl; weight = λ n. refl; time = λ n. refl }
 refused-meant (above o A e c t) =
-    record { place = λ a b c d. refl; set = λ n. absurd (n refl); grams = λ n. absurd (n refl); time = λ n. absurd (n refl) }
+    record { place = λ a b c d. refl; set = λ n. absurd (n refl); weight = λ n. absurd (n refl); time = λ n. absurd (n refl) }
 
 pub order-meant : {order : List ℕ} {a : Answer} → OfOrder order a → OnlyMeant a
 order-meant (order-refused a r) = refused-meant r

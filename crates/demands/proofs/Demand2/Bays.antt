@@ -17,10 +17,10 @@ use Rattle.model.proofs.Planner.{stand-read}
 use Rattle.demands.proofs.Demand2.Standing.{slots-apart}
 
 -- a slot between two ticks covers a moment between them
-covered : (from to q x : ℕ) (s : Slot) → 0 < s .grams → Between from to s → Covers q x s → (from * q ≤ x) × (x < to * q)
+covered : (from to q x : ℕ) (s : Slot) → 0 < s .weight → Between from to s → Covers q x s → (from * q ≤ x) × (x < to * q)
 covered from to q x s some b c = (
-  le-of-mul-le-mul-right {k = s .grams} (omega (arith, mul-le-mul-right q (b .low), c .from)) some,
-  lt-of-mul-lt-mul-right (s .grams) (omega (arith, mul-le-mul-right q (b .high), c .after)),
+  le-of-mul-le-mul-right {k = s .weight} (omega (arith, mul-le-mul-right q (b .low), c .from)) some,
+  lt-of-mul-lt-mul-right (s .weight) (omega (arith, mul-le-mul-right q (b .high), c .after)),
 )
 
 module _ (o : Order) (plan : List ℕ) (st : Stands o plan) (fit : Fit o) where

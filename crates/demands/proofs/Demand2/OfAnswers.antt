@@ -53,9 +53,9 @@ bits-one (suc n) A B e k l =
 -- the set B is the first class, with the W and P of the answer, and these are above the top rate
 pub record Shows (o : Order) (a : Answer) (B : Doses) : Type 0 where
   pub first : FirstClass o B
-  pub grams : a .grams ≡ W (settingOf o) B
+  pub weight : a .weight ≡ W (settingOf o) B
   pub time : a .time ≡ P (settingOf o) (fansPresent o) B
-  pub above : a .time * o .topGrams < a .grams * o .topSeconds
+  pub above : a .time * o .topGrams < a .weight * o .topSeconds
 
 -- a number of a set, and every set of that number shows it: its bits alone say which doses
 pub record Names (o : Order) (a : Answer) : Type 0 where
@@ -65,7 +65,7 @@ pub record Names (o : Order) (a : Answer) : Type 0 where
 
 -- so no plan is within it
 pub shows-none : (o : Order) (a : Answer) (B : Doses) → Shows o a B → FreePlan o → ⊥
-shows-none o a B s = the-set-shows-it o B (rw (s .grams, s .time) at (s .above))
+shows-none o a B s = the-set-shows-it o B (rw (s .weight, s .time) at (s .above))
 
 module _ (order : List ℕ) (o : Order) (e : readOrder order ≡ read o) where
   nine : (a : Answer) → OfOrder order a → (a .number ≡ 9) ↔ (FreePlan o → ⊥)
@@ -89,7 +89,7 @@ module _ (order : List ℕ) (o : Order) (e : readOrder order ≡ read o) where
         number = sym (ap (λ (x : Answer). x .set) is);
         every = λ B h. record {
           first = next-transport S (fansPresent o) (fansPresent o) (λ k. true) (λ k. true) A B (λ j. refl) (λ k l. refl) (same B h) (given .1);
-          grams = ap (λ (x : Answer). x .grams) is ∙ weight-alike (S .doses) (S .grams) A B (same B h);
+          weight = ap (λ (x : Answer). x .weight) is ∙ weight-alike (S .doses) (S .grams) A B (same B h);
           time = ap (λ (x : Answer). x .time) is ∙ P-alike S (fansPresent o) A B (same B h);
           above = given .3;
         };

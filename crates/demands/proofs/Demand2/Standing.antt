@@ -19,9 +19,9 @@ use Rattle.model.proofs.Planner.{stand-read}
 use Rattle.model.proofs.PlanPieces.{noSlot}
 use Rattle.model.proofs.Standing.{same-member, same-rate}
 
-ends-before : (q x : ℕ) (s u : Slot) → EndsBy s u → 0 < u .grams → Covers q x s → Covers q x u → ⊥
+ends-before : (q x : ℕ) (s u : Slot) → EndsBy s u → 0 < u .weight → Covers q x s → Covers q x u → ⊥
 ends-before q x s u e w c d =
-    omega (arith, mul-le-mul-left q (e .by), mul-lt-mul-of-pos-left (c .after) w, mul-le-mul-left (s .grams) (d .from))
+    omega (arith, mul-le-mul-left q (e .by), mul-lt-mul-of-pos-left (c .after) w, mul-le-mul-left (s .weight) (d .from))
 
 module _ (o : Order) (plan : List ℕ) (st : Stands o plan) where
   abbrev S : Setting
@@ -39,12 +39,12 @@ module _ (o : Order) (plan : List ℕ) (st : Stands o plan) where
 
   -- with the number, the W and the P of its dose's class
   pub slot-rate : (p : ℕ) (C : ℕ → Doses) → Classes S (fansPresent o) p C → (s : Slot) → OneOf slots s
-      → (i : ℕ) × (i < p) × T (C i (s .dose)) × (s .class ≡ i + 1) × (s .grams ≡ W S (C i)) × (s .time ≡ classP S (fansPresent o) C i)
+      → (i : ℕ) × (i < p) × T (C i (s .dose)) × (s .class ≡ i + 1) × (s .weight ≡ W S (C i)) × (s .time ≡ classP S (fansPresent o) C i)
   slot-rate p C c s one =
       let n = slot-named s one in
       let m = same-member S (fansPresent o) (st .count) p (st .sets) C (st .classes) c (n .class) (s .dose) (n .known) (n .dose) (n .member) in
       let r = same-rate S (fansPresent o) (st .count) p (st .sets) C (st .classes) c (n .class) (n .class) (s .dose) (n .known) (m .0) (n .dose) (n .member) (m .1) in
-      (n .class, m .0, m .1, n .number, n .grams ∙ r .0, n .time ∙ r .1)
+      (n .class, m .0, m .1, n .number, n .weight ∙ r .0, n .time ∙ r .1)
 
   -- two slots at one moment have two fans and two doses
   pub slots-apart : (q x i i′ : ℕ) (u : Slot) → i < i′ → i′ < length slots → Covers q x (getD slots i u) → Covers q x (getD slots i′ u)
@@ -52,9 +52,9 @@ module _ (o : Order) (plan : List ℕ) (st : Stands o plan) where
   slots-apart q x i i′ u l l′ c c′ =
       (λ e. never (Pairs-at u (stand .fans-apart) i i′ l l′ e), λ e. never (Pairs-at u (stand .doses-apart) i i′ l l′ e))
     where
-      some-grams : (k : ℕ) → k < length slots → 0 < getD slots k u .grams
-      some-grams k h = omega (arith, All-at u (stand .named) k h .start-part)
+      some-weight : (k : ℕ) → k < length slots → 0 < getD slots k u .weight
+      some-weight k h = omega (arith, All-at u (stand .named) k h .start-part)
 
       never : NoOverlap (getD slots i u) (getD slots i′ u) → ⊥
-      never (inl e) = ends-before q x _ _ e (some-grams i′ l′) c c′
-      never (inr e) = ends-before q x _ _ e (some-grams i (omega arith)) c′ c
+      never (inl e) = ends-before q x _ _ e (some-weight i′ l′) c c′
+      never (inr e) = ends-before q x _ _ e (some-weight i (omega arith)) c′ c

@@ -13,7 +13,7 @@ use Rattle.model.specs.Classes.{Classes, W, classP}
 use Rattle.model.specs.Intervals.{fansPresent, settingOf}
 use Rattle.model.specs.Plans.{Slot, planRecords, slotsRead}
 use Rattle.model.specs.Stands.{Stands, ends, starts}
-use Rattle.model.specs.Line.{HasFan, OneOf, RunsAt, dosing, drawn, finished, gramsOf, idle, shut, stateAt, timeOf, unitsBefore}
+use Rattle.model.specs.Line.{HasFan, OneOf, RunsAt, dosing, drawn, finished, weightOf, idle, shut, stateAt, timeOf, unitsBefore}
 use Rattle.model.specs.Answers.{Accepts, Drawn, Draws, draws, no-dose, pointOf, refuses, too-late}
 use Rattle.demands.proofs.Demand3.States.{Fed, fed-by, idle-free, inside}
 use Rattle.demands.proofs.Demand3 as demand
@@ -57,7 +57,7 @@ module _ (order plan : List ℕ) (d : ℕ) where
 
   module _ (t h : ℕ) (x y : Drawn) (a : Answers t x) (b : Answers (t + h) y) where
     -- "over h seconds it rises by less than h × rate + 1 gram"
-    pub rises-slowly : y .point .amount * timeOf slots d < x .point .amount * timeOf slots d + h * gramsOf slots d + timeOf slots d
+    pub rises-slowly : y .point .amount * timeOf slots d < x .point .amount * timeOf slots d + h * weightOf slots d + timeOf slots d
     rises-slowly =
         let s = done t x a in
         rw (amount-is t x a, amount-is (t + h) y b)
@@ -71,7 +71,7 @@ module _ (order plan : List ℕ) (d : ℕ) where
         (demand.never-falls order (s .read-order) (s .accepts .reads) plan (s .stands) d (s .listed) t h)
 
     -- "and not at all where the dose has no slot time"
-    pub still-without-slot-time : ((s : Slot) → OneOf slots s → s .dose ≡ d → (ends s ≤ t * s .grams) ⊎ ((t + h) * s .grams ≤ starts s))
+    pub still-without-slot-time : ((s : Slot) → OneOf slots s → s .dose ≡ d → (ends s ≤ t * s .weight) ⊎ ((t + h) * s .weight ≤ starts s))
         → y .point .amount ≡ x .point .amount
     still-without-slot-time g =
         let s = done t x a in
@@ -101,12 +101,12 @@ module _ (order plan : List ℕ) (d : ℕ) where
 
     -- the W and P of the dose's slots, its rate, are those of its class
     pub rate-of-its-class : (p : ℕ) (C : ℕ → Doses) → Classes (settingOf o) (fansPresent o) p C → (i : ℕ) → i < p → T (C i d)
-        → (gramsOf slots d ≡ W (settingOf o) (C i)) × (timeOf slots d ≡ classP (settingOf o) (fansPresent o) C i)
+        → (weightOf slots d ≡ W (settingOf o) (C i)) × (timeOf slots d ≡ classP (settingOf o) (fansPresent o) C i)
     rate-of-its-class = demand.rate-of-its-class order o e plan (rw same-order at (done t x a .stands)) d listed
 
     -- "Inside its window a dose is without a fan only if every fan is running, each at that dose's rate or above"
     pub waits-only-while-all-fans-run : (q m : ℕ) → 0 < q → q * doseAt o d .release ≤ m → m < q * doseAt o d .deadline → (HasFan slots q m d → ⊥)
-        → (f : ℕ) → 1 ≤ f → f ≤ o .fans → RunsAt slots q m f (gramsOf slots d) (timeOf slots d)
+        → (f : ℕ) → 1 ≤ f → f ≤ o .fans → RunsAt slots q m f (weightOf slots d) (timeOf slots d)
     waits-only-while-all-fans-run = demand.waits-only-while-all-fans-run order o e plan (rw same-order at (done t x a .stands)) d listed
 
     state-is : x .point .state ≡ stateAt o slots d t
@@ -114,7 +114,7 @@ module _ (order plan : List ℕ) (d : ℕ) where
 
     -- a dose that is drawn Idle is inside its window, and every fan is running, each at that dose's rate or above
     pub idle-only-while-all-fans-run : x .point .state ≡ idle
-        → (doseAt o d .release ≤ t) × (t < doseAt o d .deadline) × ((f : ℕ) → 1 ≤ f → f ≤ o .fans → RunsAt slots 1 t f (gramsOf slots d) (timeOf slots d))
+        → (doseAt o d .release ≤ t) × (t < doseAt o d .deadline) × ((f : ℕ) → 1 ≤ f → f ≤ o .fans → RunsAt slots 1 t f (weightOf slots d) (timeOf slots d))
     idle-only-while-all-fans-run z =
         let s = inside d t o slots idle (λ e. differ e) (λ e. differ′ e) (sym state-is ∙ z) in
         (s .0, s .1, waits-only-while-all-fans-run 1 t (omega arith) (omega (arith, s .0)) (omega (arith, s .1)) (idle-free d t slots (s .2)))

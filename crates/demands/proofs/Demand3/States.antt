@@ -15,7 +15,7 @@ use Rattle.model.specs.Line.{Covers, HasFan, State, dosing, fedAt, finished, id
 
 -- the three tests of a slot
 abbrev tests : ℕ → ℕ → Slot → Bool
-tests d t s = eqb d (s .dose) && leb (starts s) (t * s .grams) && ltb (t * s .grams) (ends s)
+tests d t s = eqb d (s .dose) && leb (starts s) (t * s .weight) && ltb (t * s .weight) (ends s)
 
 three : (a b c : Bool) → a && b && c ≡ true → (a ≡ true) × (b ≡ true) × (c ≡ true)
 three true true true e = (refl, refl, refl)
@@ -31,7 +31,7 @@ pub record Fed (slots : List Slot) (d t fan : ℕ) : Type 0 where
 module _ (d t : ℕ) where
   passes : (s : Slot) → s .dose ≡ d → Covers 1 t s → tests d t s ≡ true
   passes s e c =
-      rw (eq-eqb d (s .dose) (sym e), le-leb (starts s) (t * s .grams) (omega (arith, c .from)), lt-ltb (t * s .grams) (ends s) (omega (arith, c .after)))
+      rw (eq-eqb d (s .dose) (sym e), le-leb (starts s) (t * s .weight) (omega (arith, c .from)), lt-ltb (t * s .weight) (ends s) (omega (arith, c .after)))
 
   covered : (slots : List Slot) (i : ℕ) → i < length slots → (u : Slot) → tests d t (getD slots i u) ≡ true → fedAt slots d t ≡ idle → ⊥
   unfolding fedAt
@@ -58,15 +58,15 @@ module _ (d t : ℕ) where
       go : (b : Bool) → tests d t s ≡ b → pick b (dosing (s .fan)) (fedAt slots d t) ≡ dosing fan → (fedAt slots d t ≡ dosing fan → Fed slots d t fan)
           → Fed (s ∷ slots) d t fan
       go true q e ih =
-          let r = three (eqb d (s .dose)) (leb (starts s) (t * s .grams)) (ltb (t * s .grams) (ends s)) q in
+          let r = three (eqb d (s .dose)) (leb (starts s) (t * s .weight)) (ltb (t * s .weight) (ends s)) q in
           record {
             has = record {
               slot = s;
               one = record { index = 0; listed = omega arith; there = λ u. refl };
               dose = sym (eqb-true d (s .dose) (r .0));
               covers = record {
-                from = omega (arith, leb-true (starts s) (t * s .grams) (r .1));
-                after = omega (arith, ltb-true (t * s .grams) (ends s) (r .2));
+                from = omega (arith, leb-true (starts s) (t * s .weight) (r .1));
+                after = omega (arith, ltb-true (t * s .weight) (ends s) (r .2));
               };
             };
             by = cc;

@@ -15,7 +15,7 @@ use Rattle.model.specs.Classes.{Classes, Row, Setting, W, classP}
 use Rattle.model.specs.Intervals.{fansPresent, instantAt, settingOf}
 use Rattle.model.specs.Plans.{Slot}
 use Rattle.model.specs.Stands.{SlotsStand, ends, starts}
-use Rattle.model.specs.Line.{HasFan, OneOf, RunsAt, gramsOf, timeOf, unitsBefore}
+use Rattle.model.specs.Line.{HasFan, OneOf, RunsAt, weightOf, timeOf, unitsBefore}
 use Rattle.model.proofs.Sums.{sum-congr}
 use Rattle.model.proofs.Sequence.{nested}
 use Rattle.model.proofs.Moments.{InInterval, Pieces, Runs, runs-at}
@@ -42,7 +42,7 @@ on-agree true x y h = h tt
 on-agree false x y h = refl
 
 -- a dose's units stay where none of its slots lies
-pub rests : (slots : List Slot) (d t h : ℕ) → ((s : Slot) → OneOf slots s → s .dose ≡ d → (ends s ≤ t * s .grams) ⊎ ((t + h) * s .grams ≤ starts s))
+pub rests : (slots : List Slot) (d t h : ℕ) → ((s : Slot) → OneOf slots s → s .dose ≡ d → (ends s ≤ t * s .weight) ⊎ ((t + h) * s .weight ≤ starts s))
     → unitsBefore slots d (t + h) ≡ unitsBefore slots d t
 unfolding unitsBefore
 rests slots d t h g =
@@ -83,7 +83,7 @@ module _ (o : Order) (fit : Fit o) (p : ℕ) (C : ℕ → Doses) (c : Classes (s
   }
 
   -- every fan runs, at its rate or above
-  pub runs-others : (HasFan slots q x d → ⊥) → (f : ℕ) → 1 ≤ f → f ≤ o .fans → RunsAt slots q x f (gramsOf slots d) (timeOf slots d)
+  pub runs-others : (HasFan slots q x d → ⊥) → (f : ℕ) → 1 ≤ f → f ≤ o .fans → RunsAt slots q x f (weightOf slots d) (timeOf slots d)
   runs-others waits f low high =
       let m = class-of o fit p C c slots st d dn in
       let c′ = subst (λ (F : Row). Classes S F p C) (sym (crew-all o)) c in

@@ -23,7 +23,7 @@ use Rattle.model.proofs.Plans.{classFields, slotFields, length-one, length-reco
 pub record NarrowClass (c : Class) : Type 0 where
   pub number : c .number < 256
   pub doses : c .doses < 65536
-  pub grams : c .grams < 4294967296
+  pub weight : c .weight < 4294967296
   pub time : c .time < 4294967296
 
 -- of a slot
@@ -34,7 +34,7 @@ pub record NarrowSlot (s : Slot) : Type 0 where
   pub startPart : s .startPart < 4294967296
   pub endTick : s .endTick < 4294967296
   pub endPart : s .endPart < 4294967296
-  pub grams : s .grams < 4294967296
+  pub weight : s .weight < 4294967296
   pub time : s .time < 4294967296
   pub class : s .class < 256
 
@@ -45,12 +45,12 @@ Narrow (slotRecord s) = NarrowSlot s
 
 class-fits : (c : Class) → NarrowClass c → Fits classParts (classFields 0x43 c)
 class-fits c h =
-    in-field {width = 1} {v = 0x43} (omega arith) (in-field (h .number) (in-field (h .doses) (in-field (h .grams) (in-field (h .time) (past-blank no-part)))))
+    in-field {width = 1} {v = 0x43} (omega arith) (in-field (h .number) (in-field (h .doses) (in-field (h .weight) (in-field (h .time) (past-blank no-part)))))
 
 slot-fits : (s : Slot) → NarrowSlot s → Fits slotParts (slotFields 0x53 s)
 slot-fits s h =
     in-field {width = 1} {v = 0x53} (omega arith) (in-field (h .fan) (in-field (h .dose) (in-field (h .startTick) (in-field (h .startPart) (in-field (h .endTick)
-    (in-field (h .endPart) (in-field (h .grams) (in-field (h .time) (in-field (h .class) (past-blank no-part))))))))))
+    (in-field (h .endPart) (in-field (h .weight) (in-field (h .time) (in-field (h .class) (past-blank no-part))))))))))
 
 -- ---- one record
 

@@ -38,8 +38,8 @@ open-fans-requires c κs = search needs
 fan-time-requires : tie.Need-fan-time-requires Inv-loop μ-loop
 fan-time-requires c κs = (omega arith, c .open-fans .ensures .small)
 
-grams-of-requires : tie.Need-grams-of-requires Inv-loop μ-loop
-grams-of-requires c κs = search needs
+weight-of-requires : tie.Need-weight-of-requires Inv-loop μ-loop
+weight-of-requires c κs = search needs
 
 size-of-requires : tie.Need-size-of-requires Inv-loop μ-loop
 size-of-requires c κs = search needs
@@ -59,7 +59,7 @@ returns c =
     let marked = c .before .before .before .before .before .before .before .set-of in
     let opened = c .before .before .before .before .before .before .open-fans in
     let timed = c .before .before .before .before .before .fan-time in
-    let weighed = c .before .before .before .before .grams-of in
+    let weighed = c .before .before .before .before .weight-of in
     let counted = c .before .before .before .size-of in
     let read = c .before .before .class-at in
     let tells = says-fits h (start .pre .2) (start .pre .3) (A .numbers .now) (L .i) (L .free) (L .inv .1) (marked .result) (marked .ensures) (opened .result) (opened .ensures) (counted .result) (weighed .result) (timed .result) (counted .ensures .0) (weighed .ensures) (timed .ensures) _ (c .before .says .ensures) in
@@ -83,7 +83,7 @@ loop-again c =
     let marked = c .before .before .before .before .before .before .before .before .set-of in
     let opened = c .before .before .before .before .before .before .before .open-fans in
     let timed = c .before .before .before .before .before .before .fan-time in
-    let weighed = c .before .before .before .before .before .grams-of in
+    let weighed = c .before .before .before .before .before .weight-of in
     let counted = c .before .before .before .before .size-of in
     let read = c .before .before .before .class-at in
     let tells = says-fits h (start .pre .2) (start .pre .3) (A .numbers .now) (L .i) (L .free) (L .inv .1) (marked .result) (marked .ensures) (opened .result) (opened .ensures) (counted .result) (weighed .result) (timed .result) (counted .ensures .0) (weighed .ensures) (timed .ensures) _ (c .before .before .says .ensures) in (
@@ -107,7 +107,7 @@ classes-fit-spec =
     set-of-requires
     open-fans-requires
     fan-time-requires
-    grams-of-requires
+    weight-of-requires
     size-of-requires
     class-at-requires
     says-requires

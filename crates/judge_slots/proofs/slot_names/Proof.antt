@@ -8,7 +8,7 @@ returns : tie.Need-returns
 returns c = tells-off (λ h. omega (arith, h .class, c .if1 .taken))
 
 returns-2 : tie.Need-returns-2
-returns-2 c = tells-off (λ h. omega (arith, h .grams, c .if2 .taken))
+returns-2 c = tells-off (λ h. omega (arith, h .weight, c .if2 .taken))
 
 returns-3 : tie.Need-returns-3
 returns-3 c = tells-off (λ h. omega (arith, h .time, c .if3 .taken))
@@ -22,7 +22,7 @@ returns-5 c =
     let b = c .before .before .before .before .before .before .if2 .left in
     let d = c .before .before .before .if3 .left in
     let e = c .before .if4 .left in
-    tells-leb _ _ (λ l. record { class = a; grams = b; time = d; fan-from = e; fan-to = l }) (λ h. h .fan-to)
+    tells-leb _ _ (λ l. record { class = a; weight = b; time = d; fan-from = e; fan-to = l }) (λ h. h .fan-to)
 
 pub slot-names-spec : {M : Type 1} → statement M
 slot-names-spec = tie.close (tie.spec returns returns-2 returns-3 returns-4 returns-5)

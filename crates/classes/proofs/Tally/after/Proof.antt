@@ -21,11 +21,11 @@ add-number-members c = search needs
 number-members-requires : tie.Need-number-members-requires
 number-members-requires c κs = search needs
 
-mul-grams : tie.Need-mul-grams
-mul-grams c = search needs
+mul-weight : tie.Need-mul-weight
+mul-weight c = search needs
 
-array-write-grams : tie.Need-array-write-grams
-array-write-grams c = search needs
+array-write-weight : tie.Need-array-write-weight
+array-write-weight c = search needs
 
 mul-time : tie.Need-mul-time
 mul-time c = search needs
@@ -50,9 +50,9 @@ returns c =
       classed = ap (λ (m : ℕ). A .self .classed + m) (c .before .size-of .ensures .0);
       remaining = c .before .before .before .before .before .before .left-of .ensures;
       numbers = c .before .before .before .before .number-members .ensures;
-      grams = getD-set-same (A .self .grams) (A .self .class) _ 0 (let e : length (A .self .grams) ≡ mostDoses = search needs in omega (arith, c .before .before .before .before .before .before .before .before .before .pre .0));
+      weight = getD-set-same (A .self .weight) (A .self .class) _ 0 (let e : length (A .self .weight) ≡ mostDoses = search needs in omega (arith, c .before .before .before .before .before .before .before .before .before .pre .0));
       time = getD-set-same (A .self .time) (A .self .class) _ 0 (let e : length (A .self .time) ≡ mostDoses = search needs in omega (arith, c .before .before .before .before .before .before .before .before .before .pre .0));
-      other-grams = λ i d. getD-set-other (A .self .grams) (A .self .class) i _ 0 d;
+      other-weight = λ i d. getD-set-other (A .self .weight) (A .self .class) i _ 0 d;
       other-time = λ i d. getD-set-other (A .self .time) (A .self .class) i _ 0 d;
     }
 
@@ -64,8 +64,8 @@ after-spec =
     cast-number-members
     add-number-members
     number-members-requires
-    mul-grams
-    array-write-grams
+    mul-weight
+    array-write-weight
     mul-time
     array-write-time
     add-t14

@@ -19,7 +19,7 @@ returns : tie.Need-returns
 returns c =
     let x = c .before .too-fast .ensures .above (c .if1 .taken) in
     fast-by (asOrder (c .before .before .before .before .before .args .o)) is.Falls _ (x .0) (x .1) (x .2)
-    (ap (λ (a : Answer). is.TooFast (a .set) (a .grams) (a .time)) (x .3))
+    (ap (λ (a : Answer). is.TooFast (a .set) (a .weight) (a .time)) (x .3))
 
 returns-2 : tie.Need-returns-2
 returns-2 c = slow (c .before .too-fast .ensures .slow (c .if1 .left))

@@ -17,7 +17,7 @@ tables-of-requires : tie.Need-tables-of-requires
 tables-of-requires c κs = search needs
 
 write-plan-requires : tie.Need-write-plan-requires
-write-plan-requires c κs = let P = c .before .before .before .before .before .before .before .before .pre in let size : length (c .before .before .before .before .before .before .before .before .args .shares .now) ≡ cells = search needs in let h = tables-hold (P .0) (c .before .before .before .instants-of .ensures) (c .before .before .tables-of .ensures) (P .1 .classes) (P .1 .grams) (P .1 .time) (P .2 .rows) size (P .2 .valid) in (filled _ _ _ _ h (P .0), roomy _ _ _ _ h (P .0) (P .3))
+write-plan-requires c κs = let P = c .before .before .before .before .before .before .before .before .pre in let size : length (c .before .before .before .before .before .before .before .before .args .shares .now) ≡ cells = search needs in let h = tables-hold (P .0) (c .before .before .before .instants-of .ensures) (c .before .before .tables-of .ensures) (P .1 .classes) (P .1 .weight) (P .1 .time) (P .2 .rows) size (P .2 .valid) in (filled _ _ _ _ h (P .0), roomy _ _ _ _ h (P .0) (P .3))
 
 finished-requires : tie.Need-finished-requires
 finished-requires c κs = search needs
@@ -26,7 +26,7 @@ same-length : tie.Need-same-length
 same-length c = search needs
 
 returns : tie.Need-returns
-returns c = let P = c .before .before .before .before .before .before .before .before .before .before .before .before .pre in let size : length (c .before .before .before .before .before .before .before .before .before .before .before .before .args .shares .now) ≡ cells = search needs in let h = tables-hold (P .0) (c .before .before .before .before .before .before .before .instants-of .ensures) (c .before .before .before .before .before .before .tables-of .ensures) (P .1 .classes) (P .1 .grams) (P .1 .time) (P .2 .rows) size (P .2 .valid) in written _ _ _ _ h (c .before .before .before .write-plan .ensures .0) (c .before .before .before .write-plan .ensures .1) (c .finished .ensures)
+returns c = let P = c .before .before .before .before .before .before .before .before .before .before .before .before .pre in let size : length (c .before .before .before .before .before .before .before .before .before .before .before .before .args .shares .now) ≡ cells = search needs in let h = tables-hold (P .0) (c .before .before .before .before .before .before .before .instants-of .ensures) (c .before .before .before .before .before .before .tables-of .ensures) (P .1 .classes) (P .1 .weight) (P .1 .time) (P .2 .rows) size (P .2 .valid) in written _ _ _ _ h (c .before .before .before .write-plan .ensures .0) (c .before .before .before .write-plan .ensures .1) (c .finished .ensures)
 
 pub write-order-spec : {M : Type 1} → statement M
 write-order-spec =

@@ -21,7 +21,7 @@ unfolding fieldsAt
 returns c = λ i. record {
   number = c .before .before .before .read8 .ensures .0 i;
   doses = c .before .before .read16 .ensures .0 i;
-  grams = c .before .read32 .ensures .0 i;
+  weight = c .before .read32 .ensures .0 i;
   time = c .read322 .ensures .0 i;
 }
 

@@ -6,10 +6,10 @@ use Rattle.records.proofs.plan_records.moment.Statement.{statement}
 use Rattle.records.proofs.plan_records.moment.Tie as tie
 
 mul-result : tie.Need-mul-result
-mul-result c = omega (arith, product-fits (c .args .tick) (c .args .grams) (c .args .part) (omega arith) (omega arith) (omega arith))
+mul-result c = omega (arith, product-fits (c .args .tick) (c .args .weight) (c .args .part) (omega arith) (omega arith) (omega arith))
 
 add-result : tie.Need-add-result
-add-result c = omega (arith, product-fits (c .args .tick) (c .args .grams) (c .args .part) (omega arith) (omega arith) (omega arith))
+add-result c = omega (arith, product-fits (c .args .tick) (c .args .weight) (c .args .part) (omega arith) (omega arith) (omega arith))
 
 returns : tie.Need-returns
 returns c = search needs

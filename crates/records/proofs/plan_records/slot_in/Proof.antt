@@ -40,7 +40,7 @@ returns c = λ i. record {
   startPart = c .before .before .before .before .before .read322 .ensures .0 i;
   endTick = c .before .before .before .before .read323 .ensures .0 i;
   endPart = c .before .before .before .read324 .ensures .0 i;
-  grams = c .before .before .read325 .ensures .0 i;
+  weight = c .before .before .read325 .ensures .0 i;
   time = c .before .read326 .ensures .0 i;
   class = c .read82 .ensures .0 i;
 }

@@ -1,4 +1,4 @@
--- `grams_of` meets its contract: the sum so far is the weight of the doses passed, of 32 bits each.
+-- `weight_of` meets its contract: the sum so far is the weight of the doses passed, of 32 bits each.
 use Prim.Native.Nat.{ℕ, _≤_, _-_, _*_}
 use mathlib.Core.Path.{_≡_, ap, _∙_}
 use mathlib.Core.Bool.{false}
@@ -8,8 +8,8 @@ use borrow.Author.Needs.{needs}
 use Rattle.model.specs.Sets.{on, weight}
 use Rattle.order_arrays.specs.Arrays.{setOf}
 use Rattle.steps.proofs.Loops.{at-end, weight-none, weight-step}
-use Rattle.measure.proofs.grams_of.Statement.{statement}
-use Rattle.measure.proofs.grams_of.Tie as tie
+use Rattle.measure.proofs.weight_of.Statement.{statement}
+use Rattle.measure.proofs.weight_of.Tie as tie
 
 abbrev Inv-loop : tie.InvT-loop
 Inv-loop grams doses set s₀ k₀ s k = (k ≤ doses) × (s ≡ weight k (λ i. getD grams i 0) (setOf set)) × (s ≤ k * 4294967295)
@@ -59,8 +59,8 @@ returns c =
     let L = c .before .loop in
     at-end (λ (k : ℕ). L .sum ≡ weight k (λ i. getD (A .grams .now) i 0) (setOf (A .t3))) (omega arith) (L .inv .1)
 
-pub grams-of-spec : {M : Type 1} → statement M
-grams-of-spec =
+pub weight-of-spec : {M : Type 1} → statement M
+weight-of-spec =
     tie.close
     (tie.spec
     Inv-loop
