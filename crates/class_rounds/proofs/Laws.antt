@@ -11,7 +11,7 @@ use lib.ListN.{length, getD, List·getD-eq-default}
 use Rattle.model.specs.Limits.{mostIntervals}
 use Rattle.model.specs.Sets.{on, Doses}
 use Rattle.model.proofs.Fractions.{compare≤}
-use Rattle.order_arrays.proofs.Laws.{and-false}
+use Rattle.steps.proofs.Tests.{and-false}
 use Rattle.class_rounds.specs.Rounds.{NonePast}
 
 -- a room by dose and interval, and by its place

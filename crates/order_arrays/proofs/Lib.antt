@@ -1,3 +1,2 @@
-pub mod Laws
 pub mod OfOrder
 pub mod OneAnswer

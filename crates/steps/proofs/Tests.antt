@@ -1,5 +1,5 @@
 -- Laws of tests: both ways of a test, and a number where one holds. Assumes nothing.
-use mathlib.Core.Bool.{Bool, true, false}
+use mathlib.Core.Bool.{Bool, true, false, _&&_}
 use mathlib.Core.Logic.{_≢_, inl, inr}
 use mathlib.Core.Path.{_≡_, refl, sym, _∙_}
 use Prim.Native.Nat.{ℕ, _<_, _≤_}
@@ -12,6 +12,11 @@ use Rattle.model.proofs.Fractions.{compare≤}
 
 pub not-both : {b : Bool} → b ≡ true → b ≡ false → ⊥
 not-both {b} p q = let z : true ≡ false = sym p ∙ q in let y : _≡_ {A = ℕ} 0 1 = cc in omega arith
+
+-- both of a test and false
+pub and-false : (b : Bool) → (b && false) ≡ false
+and-false true = refl
+and-false false = refl
 
 -- either way of a test, and of two numbers
 pub known : {A : Type 0} (b : Bool) → (b ≡ true → A) → (b ≡ false → A) → A

@@ -7,7 +7,7 @@ use native.Mathlib.Omega.{arith}
 use borrow.Author.Needs.{needs}
 use Rattle.model.specs.Limits.{mostDoses}
 use Rattle.class_rounds.proofs.Laws.{marks-both}
-use Rattle.order_arrays.proofs.Laws.{DoneTo, done-none, done-next, done-all}
+use Rattle.steps.proofs.Loops.{DoneTo, done-none, done-next, done-all}
 use Rattle.class_rounds.proofs.dead_part.Statement.{statement}
 use Rattle.class_rounds.proofs.dead_part.Tie as tie
 

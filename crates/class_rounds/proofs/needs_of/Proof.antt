@@ -8,7 +8,7 @@ use borrow.Author.Needs.{needs}
 use Rattle.model.specs.Limits.{mostDoses}
 use Rattle.model.specs.Sets.{on}
 use native.Mathlib.Nat.{mul-le-mul}
-use Rattle.order_arrays.proofs.Laws.{DoneTo, done-none, done-next, done-all}
+use Rattle.steps.proofs.Loops.{DoneTo, done-none, done-next, done-all}
 use Rattle.class_rounds.proofs.needs_of.Statement.{statement}
 use Rattle.class_rounds.proofs.needs_of.Tie as tie
 

@@ -7,8 +7,7 @@ use native.Mathlib.Omega.{arith}
 use borrow.Author.Needs.{needs}
 use Rattle.model.specs.Limits.{cells, mostIntervals}
 use Rattle.classes.specs.Phase.{choose}
-use Rattle.steps.proofs.Loops.{unreached}
-use Rattle.order_arrays.proofs.Laws.{DoneTo, done-none, done-next, done-all}
+use Rattle.steps.proofs.Loops.{DoneTo, done-none, done-next, done-all, unreached}
 use Rattle.classes.proofs.keep_shares.Statement.{statement}
 use Rattle.classes.proofs.keep_shares.Tie as tie
 

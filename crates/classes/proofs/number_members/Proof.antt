@@ -7,7 +7,7 @@ use native.Mathlib.Omega.{arith}
 use borrow.Author.Needs.{needs}
 use Rattle.model.specs.Limits.{mostDoses}
 use Rattle.classes.specs.Phase.{choose}
-use Rattle.order_arrays.proofs.Laws.{DoneTo, done-none, done-next, done-all}
+use Rattle.steps.proofs.Loops.{DoneTo, done-none, done-next, done-all}
 use Rattle.classes.proofs.number_members.Statement.{statement}
 use Rattle.classes.proofs.number_members.Tie as tie
 

@@ -5,7 +5,7 @@ use lib.ListN.{getD}
 use borrow.Author.Needs.{needs}
 use native.Mathlib.Omega.{arith}
 use Rattle.model.specs.Limits.{mostIntervals}
-use Rattle.order_arrays.proofs.Laws.{DoneTo, done-none, done-next, done-all}
+use Rattle.steps.proofs.Loops.{DoneTo, done-none, done-next, done-all}
 use Rattle.judge_rates.proofs.free_after.Statement.{statement}
 use Rattle.judge_rates.proofs.free_after.Tie as tie
 

@@ -9,7 +9,7 @@ use lib.ListN.{length, getD}
 use Rattle.model.specs.Limits.{mostIntervals}
 use Rattle.model.specs.Sets.{on}
 use Rattle.order_arrays.specs.Arrays.{setOf, reaches}
-use Rattle.order_arrays.proofs.Laws.{all-same}
+use Rattle.steps.proofs.Arrays.{all-same}
 use Rattle.steps.proofs.Tests.{on-most}
 use Rattle.steps.proofs.Loops.{at-end, weight-more, weight-none}
 use Rattle.measure.specs.Measure.{countIn}

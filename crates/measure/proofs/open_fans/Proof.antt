@@ -6,7 +6,7 @@ use native.Mathlib.Omega.{arith}
 use borrow.Author.Needs.{needs}
 use lib.ListN.{length, getD, length-set}
 use Rattle.model.specs.Limits.{mostIntervals}
-use Rattle.order_arrays.proofs.Laws.{all-same}
+use Rattle.steps.proofs.Arrays.{all-same}
 use Rattle.steps.proofs.Loops.{stored, unreached}
 use Rattle.steps.proofs.Tests.{below-or}
 use Rattle.measure.proofs.open_fans.Statement.{statement}

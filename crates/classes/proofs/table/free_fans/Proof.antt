@@ -6,7 +6,7 @@ use borrow.Author.Needs.{needs}
 use Rattle.model.specs.Limits.{mostIntervals}
 use Rattle.model.specs.Sets.{sum}
 use Rattle.classes.specs.Phase.{rowAt}
-use Rattle.order_arrays.proofs.Laws.{DoneTo, done-none, done-next, done-all}
+use Rattle.steps.proofs.Loops.{DoneTo, done-none, done-next, done-all}
 use Rattle.classes.proofs.table.free_fans.Statement.{statement}
 use Rattle.classes.proofs.table.free_fans.Tie as tie
 
