@@ -12,7 +12,7 @@ use Rattle.model.proofs.FanTime.{P-alike, openFans-alike}
 use Rattle.model.proofs.NextClass.{next-unique}
 use Rattle.steps.proofs.Tests.{below-or}
 use Rattle.steps.proofs.Arrays.{places-one}
-use Rattle.order_arrays.specs.Arrays.{setOf}
+use Rattle.measure.specs.Arrays.{setOf}
 use Rattle.class_rounds.specs.declared.Class.{Class}
 use Rattle.class_rounds.specs.Rounds.{NextOf}
 

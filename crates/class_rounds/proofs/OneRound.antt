@@ -16,7 +16,7 @@ use Rattle.model.proofs.ValidShares.{valid-if-met}
 use Rattle.class_chains.specs.Chains.{cell}
 use Rattle.class_shares.specs.Share.{Raised, Met}
 use Rattle.class_shares.proofs.Bridge as bridge
-use Rattle.order_arrays.specs.Arrays.{setOf, activeOf, rowOf, settingFrom, OrderArrays}
+use Rattle.measure.specs.Arrays.{setOf, activeOf, rowOf, settingFrom, OrderArrays}
 use Rattle.measure.specs.Measure.{Measured}
 use Rattle.class_rounds.specs.Rounds.{Rooms, Holds, Needs, Candidate, Tried}
 use Rattle.class_rounds.proofs.Laws.{room-place}

@@ -11,7 +11,7 @@ use Rattle.model.specs.Classes.{Setting, Row, W, NextClass}
 use Rattle.model.specs.Shares.{Valid}
 use Rattle.model.proofs.Rounds.{Keeps}
 use Rattle.class_chains.specs.Chains.{cell}
-use Rattle.order_arrays.specs.Arrays.{setOf, Below}
+use Rattle.measure.specs.Arrays.{setOf, Below}
 use Rattle.measure.specs.Measure.{Measured}
 use Rattle.class_rounds.specs.declared.Class.{Class}
 

@@ -16,7 +16,7 @@ ghost use Prim.Native.Nat.{ℕ, _+_, _*_, _<_, _≤_};
 ghost use lib.ListN.{length, getD};
 ghost use Rattle.model.specs.Limits.{cells, mostWeight, mostDoses, mostIntervals, week};
 ghost use Rattle.model.specs.Sets.{Nonempty};
-ghost use Rattle.order_arrays.specs.Arrays.{setOf, rowOf, Below, settingFrom, OrderArrays};
+ghost use Rattle.measure.specs.Arrays.{setOf, rowOf, Below, settingFrom, OrderArrays};
 ghost use Rattle.measure.specs.Measure.{Measured};
 ghost use Rattle.class_rounds.specs.Rounds.{RoomsTo, Rooms, Holds, Needs, NonePast, Tried, NextOf};
 

@@ -12,7 +12,7 @@ use Rattle.model.specs.Intervals.{settingOf, fansPresent}
 use Rattle.model.proofs.Same.{Agree, W-same, fans-same, class-time-same, valid-same, free-same, classes-same}
 use Rattle.model.proofs.Orders.{Fit}
 use Rattle.model.proofs.Intervals.{few-intervals}
-use Rattle.order_arrays.specs.Arrays.{settingFrom}
+use Rattle.measure.specs.Arrays.{settingFrom}
 use Rattle.classes.specs.declared.Tally.{Tally}
 use Rattle.classes.specs.Phase.{classesIn, sharesIn, SoFar}
 use Rattle.classes.specs.Answer.{ClassesOf, SharesOf}

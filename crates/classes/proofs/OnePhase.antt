@@ -19,7 +19,7 @@ use Rattle.model.proofs.Sets.{Alike, _∩_, and-left, and-right, and-both, same
 use Rattle.model.proofs.Same.{agree-refl, fans-same, time-same, valid-same, next-same}
 use Rattle.model.proofs.Sequence.{Found, found-none, found-more, found-all, remaining-alike, free-alike}
 use Rattle.class_chains.specs.Chains.{cell}
-use Rattle.order_arrays.specs.Arrays.{setOf, activeOf, rowOf, settingFrom}
+use Rattle.measure.specs.Arrays.{setOf, activeOf, rowOf, settingFrom}
 use Rattle.steps.proofs.Arrays.{all-same}
 use Rattle.measure.specs.Measure.{Measured}
 use Rattle.measure.proofs.Free.{frees-sum}

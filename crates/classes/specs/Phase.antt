@@ -14,7 +14,7 @@ use Rattle.model.specs.Shares.{Valid}
 use Rattle.model.proofs.Sets.{size}
 use Rattle.model.proofs.Sequence.{Found}
 use Rattle.class_chains.specs.Chains.{cell}
-use Rattle.order_arrays.specs.Arrays.{setOf, setsOf}
+use Rattle.measure.specs.Arrays.{setOf, setsOf}
 use Rattle.classes.specs.declared.Tally.{Tally}
 
 -- a where the test holds, and b where not

@@ -6,12 +6,12 @@ mod top; // top.rt: refusal 9
 
 use class_rounds::Class;
 use class_rounds::next_class;
+use measure::active_in_order;
 use measure::first_set;
+use measure::grams_in;
+use measure::lens_in;
 use measure::size_of;
 use order::Order;
-use order_arrays::active_in_order;
-use order_arrays::grams_in;
-use order_arrays::lens_in;
 use sequence::by_deadline;
 use steps::excess;
 use steps::limits::CELLS;
@@ -30,7 +30,7 @@ ghost use lib.ListN.{length, getD};
 ghost use Rattle.model.specs.Limits.{cells, mostDoses};
 ghost use Rattle.model.proofs.Orders.{Fit};
 ghost use Rattle.order.specs.Held.{asOrder};
-ghost use Rattle.order_arrays.specs.Arrays.{settingFrom, OrderArrays};
+ghost use Rattle.measure.specs.Arrays.{settingFrom, OrderArrays};
 ghost use Rattle.classes.specs.Answer.{ClassesOf, SharesOf, AgainstTop};
 ghost use Rattle.classes.specs.Phase.{choose, Start, Blank, After, KeptShares, SoFar};
 

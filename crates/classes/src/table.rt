@@ -9,7 +9,7 @@ ghost use Prim.Native.Nat.{ℕ, _-_, _<_, _≤_};
 ghost use lib.ListN.{length, getD};
 ghost use Rattle.model.specs.Limits.{mostDoses, mostIntervals};
 ghost use Rattle.model.specs.Sets.{sum};
-ghost use Rattle.order_arrays.specs.Arrays.{Below};
+ghost use Rattle.measure.specs.Arrays.{Below};
 ghost use Rattle.classes.specs.Phase.{rowAt, Reserved};
 
 // The fans that the first classes reserve in interval j.

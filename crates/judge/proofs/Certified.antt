@@ -30,7 +30,7 @@ use Rattle.model.proofs.PlanPieces.{noSlot}
 use Rattle.model.proofs.Judging.{certified-classes, certified-stands}
 use Rattle.records.specs.Plan.{classIn, slotIn}
 use Rattle.judge_clauses.specs.Tests.{InTurn, Passes, OrderHeld, HeldFrom, SlotFits, by-fan, by-interval, by-time, placeIn, unitsUpTo}
-use Rattle.order_arrays.specs.Arrays.{setsOf}
+use Rattle.measure.specs.Arrays.{setsOf}
 use Rattle.judge.proofs.Rows.{class-row, gather-at, noClass, noRecord, plan-class, plan-length, plan-slot, rows-read, slot-row}
 use Rattle.judge_slots.proofs.Places.{ends-apart, turns-all}
 use Rattle.judge.proofs.Held.{instants-up, same-weight, same-size, same-time}

@@ -29,7 +29,7 @@ use Rattle.model.proofs.DrawnLine.{class-of}
 use Rattle.model.proofs.PlanPieces.{noSlot}
 use Rattle.records.specs.Plan.{classIn, slotIn}
 use Rattle.judge_clauses.specs.Tests.{ClassFits, ClassRow, InTurn, Leads, ClassNumbers, Passes, OrderHeld, HeldFrom, SlotFits, SlotLong, SlotRow, by-fan, by-interval, by-time, placeIn, unitsUpTo}
-use Rattle.order_arrays.specs.Arrays.{setsOf}
+use Rattle.measure.specs.Arrays.{setsOf}
 use Rattle.judge.proofs.Rows.{gather-at, noClass, plan-class, plan-length, plan-slot, read-rows, row-class, row-slot}
 use Rattle.judge_slots.proofs.Places.{place-at, tick-before, tick-from}
 use Rattle.judge.proofs.Held.{instants-up, same-weight, same-size, same-time}

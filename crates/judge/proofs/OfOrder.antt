@@ -28,7 +28,7 @@ use Rattle.interval.specs.Held.{InstantsOf}
 use Rattle.interval.proofs.Laws.{count-is, instant-is}
 use Rattle.records.specs.Plan.{classIn}
 use Rattle.judge_clauses.specs.Tests.{Finds, Passes, OrderHeld, HeldFrom, orderHeld}
-use Rattle.order_arrays.specs.Arrays.{setsOf}
+use Rattle.measure.specs.Arrays.{setsOf}
 use Rattle.judge.specs.Verdict.{Against, Certifies, Leader, fast, fastBy, slow}
 use Rattle.judge.specs.declared.Judged.{Judged}
 use Rattle.judge.specs.declared.Judged.the-variants as is

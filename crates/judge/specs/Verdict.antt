@@ -13,7 +13,7 @@ use Rattle.model.specs.Stands.{Stands}
 use Rattle.model.specs.Answers.{Answer, FirstClass, Judges, aboveTop, done, refusal}
 use Rattle.records.specs.Plan.{classIn}
 use Rattle.judge_clauses.specs.Tests.{Tells}
-use Rattle.order_arrays.specs.Arrays.{setsOf}
+use Rattle.measure.specs.Arrays.{setsOf}
 use Rattle.judge.specs.declared.Judged.{Judged}
 use Rattle.judge.specs.declared.Judged.the-variants as is
 

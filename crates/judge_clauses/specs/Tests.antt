@@ -15,7 +15,7 @@ use Rattle.model.specs.Classes.{Setting, Row, W, classP}
 use Rattle.model.specs.Plans.{Class, Slot}
 use Rattle.model.specs.Stands.{Between, EndsBy, NoOverlap, starts, ends, unitsOf}
 use Rattle.records.specs.Plan.{classIn, slotIn, kindAt}
-use Rattle.order_arrays.specs.Arrays.{settingBy, setsOf}
+use Rattle.measure.specs.Arrays.{settingBy, setsOf}
 
 -- r says whether P holds
 pub record Tells (r : Bool) (P : Type 0) : Type 0 where

@@ -10,7 +10,7 @@ use Rattle.model.specs.Sets.{Doses, sum, weight}
 use Rattle.model.specs.Classes.{Setting, free}
 use Rattle.model.specs.Plans.{Class}
 use Rattle.model.proofs.Sets.{Alike, weight-alike}
-use Rattle.order_arrays.specs.Arrays.{lenOf, setOf, setsOf}
+use Rattle.measure.specs.Arrays.{lenOf, setOf, setsOf}
 use Rattle.measure.specs.Measure.{Measured, Opens}
 use Rattle.measure.proofs.Laws.{measured}
 use Rattle.measure.proofs.Free.{Frees, frees-next}

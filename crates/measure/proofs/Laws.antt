@@ -12,7 +12,7 @@ use Rattle.model.specs.Classes.{Setting, Row, P, openFans}
 use Rattle.model.proofs.Same.{Agree, fans-same, W-same, time-same}
 use Rattle.model.proofs.Sets.{Alike, on-below, weight-alike}
 use Rattle.model.proofs.Sums.{sum-congr}
-use Rattle.order_arrays.specs.Arrays.{setOf, lenOf, settingBy, Below, OrderArrays}
+use Rattle.measure.specs.Arrays.{setOf, lenOf, settingBy, Below, OrderArrays}
 use Rattle.measure.specs.Measure.{Opens, Measured}
 
 -- ---- W and P fit

@@ -7,7 +7,7 @@ use lib.ListN.{getD}
 use Rattle.model.specs.Limits.{mostDoses, mostIntervals}
 use Rattle.model.specs.Sets.{on, weight, Doses}
 use Rattle.model.specs.Classes.{Setting, Row, W, P, openFans}
-use Rattle.order_arrays.specs.Arrays.{setOf, reaches, Below}
+use Rattle.measure.specs.Arrays.{setOf, reaches, Below}
 
 -- "(active doses of A)", in interval j, by the doses' windows
 abbrev pub countIn : List ℕ → List ℕ → List ℕ → ℕ → List Bool → ℕ → ℕ

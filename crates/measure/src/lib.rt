@@ -1,4 +1,9 @@
-// What a set of doses weighs and opens (document 01, "From doses to classes").
+// An order in arrays, and what a set of its doses weighs and opens (document 01, "From doses to classes").
+mod arrays; // arrays.rt: an order's doses and intervals in arrays
+
+pub use arrays::active_in_order;
+pub use arrays::grams_in;
+pub use arrays::lens_in;
 use steps::both;
 use steps::index;
 use steps::less;
@@ -16,7 +21,7 @@ ghost use Rattle.model.specs.Limits.{mostDoses, mostIntervals};
 ghost use Rattle.model.specs.Sets.{sum, weight};
 ghost use Rattle.model.specs.Sets as sets;
 ghost use Rattle.model.specs.Classes.{setNumber};
-ghost use Rattle.order_arrays.specs.Arrays.{setOf, setsOf, within, lenOf, Below};
+ghost use Rattle.measure.specs.Arrays.{setOf, setsOf, within, lenOf, Below};
 ghost use Rattle.measure.specs.Measure.{countIn, Opens};
 
 // The doses of class i, by the number that each dose's class has.

@@ -13,7 +13,7 @@ use Rattle.model.specs.Plans.{Class, planOf, recordsBytes}
 use Rattle.model.specs.Layout.{tableSlots}
 use Rattle.model.specs.Answers.{ValidShares}
 use Rattle.interval.specs.declared.Instants.{Instants}
-use Rattle.order_arrays.specs.Arrays.{setsOf}
+use Rattle.measure.specs.Arrays.{setsOf}
 use Rattle.plan_layout.specs.declared.Tables.{Tables}
 use Rattle.plan_layout.specs.Held.{fansAt, shareAt, tableFrom}
 

@@ -14,7 +14,7 @@ use Rattle.model.specs.Lists.{gather}
 use Rattle.model.specs.Plans.{Slot, slotRecord}
 use Rattle.model.specs.Layout.{Lane, intervalSlots, lane, laneSlots, tableSlots}
 use Rattle.model.proofs.Lists.{sum-before}
-use Rattle.order_arrays.specs.Arrays.{setsOf}
+use Rattle.measure.specs.Arrays.{setsOf}
 use Rattle.plan_layout.specs.declared.Tables.{Tables}
 use Rattle.plan_layout.specs.Held.{fansAt, laneAt, lenAt, shareAt, tableFrom}
 use Rattle.plan_layout.specs.Laying.{Filled, Rooms, Wrote}

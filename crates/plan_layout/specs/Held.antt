@@ -5,7 +5,7 @@ use lib.ListN.{getD}
 use Rattle.model.specs.Limits.{mostIntervals}
 use Rattle.model.specs.Sets.{on}
 use Rattle.model.specs.Layout as model
-use Rattle.order_arrays.specs.Arrays.{setsOf}
+use Rattle.measure.specs.Arrays.{setsOf}
 use Rattle.plan_layout.specs.declared.Lane.{Lane}
 use Rattle.plan_layout.specs.declared.Tables.{Tables}
 

@@ -6,7 +6,7 @@ use lib.ListN.{length, getD}
 use borrow.Author.Needs.{needs}
 use Rattle.model.specs.Limits.{cells}
 use Rattle.model.specs.Sets.{weight}
-use Rattle.order_arrays.specs.Arrays.{setOf, rowOf, settingFrom}
+use Rattle.measure.specs.Arrays.{setOf, rowOf, settingFrom}
 use Rattle.class_rounds.specs.Rounds.{Candidate}
 use Rattle.class_rounds.proofs.Laws.{none-past}
 use Rattle.class_rounds.proofs.OneRound.{first-candidate}

@@ -2,7 +2,7 @@
 use mathlib.Core.Path.{refl}
 use native.Mathlib.Omega.{arith}
 use borrow.Author.Needs.{needs}
-use Rattle.order_arrays.specs.Arrays.{setOf, rowOf}
+use Rattle.measure.specs.Arrays.{setOf, rowOf}
 use Rattle.measure.proofs.Laws.{W-most, measured, measured-same, time-most}
 use Rattle.class_rounds.proofs.OneRound.{tried}
 use Rattle.class_rounds.proofs.try_candidate.Statement.{statement}

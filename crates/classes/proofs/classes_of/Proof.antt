@@ -3,7 +3,7 @@ use mathlib.Core.Path.{refl}
 use borrow.Author.Needs.{needs}
 use Rattle.order.specs.Held.{asOrder}
 use Rattle.order.proofs.Fields.{fans-is, few-doses}
-use Rattle.order_arrays.proofs.OfOrder.{agree, arrays}
+use Rattle.measure.proofs.OfOrder.{agree, arrays}
 use Rattle.classes.proofs.OnePhase.{blank}
 use Rattle.classes.proofs.OfOrder.{of-order}
 use Rattle.classes.proofs.classes_of.Statement.{statement}

@@ -3,7 +3,7 @@ use mathlib.Core.Path.{refl}
 use native.Mathlib.Omega.{arith}
 use borrow.Author.Needs.{needs}
 use Rattle.classes.proofs.OnePhase.{some-remain, some-size, so-far-next}
-use Rattle.order_arrays.specs.Arrays.{setOf}
+use Rattle.measure.specs.Arrays.{setOf}
 use Rattle.classes.proofs.phase.Statement.{statement}
 use Rattle.classes.proofs.phase.Tie as tie
 

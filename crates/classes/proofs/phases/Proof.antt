@@ -5,7 +5,7 @@ use lib.ListN.{length}
 use native.Mathlib.Omega.{arith}
 use borrow.Author.Needs.{needs}
 use Rattle.model.specs.Limits.{cells}
-use Rattle.order_arrays.specs.Arrays.{settingFrom}
+use Rattle.measure.specs.Arrays.{settingFrom}
 use Rattle.classes.specs.Phase.{SoFar}
 use Rattle.classes.proofs.OnePhase.{so-far-start}
 use Rattle.classes.proofs.phases.Statement.{statement}

@@ -6,7 +6,7 @@ use native.Mathlib.Omega.{arith}
 use borrow.Author.Needs.{needs}
 use Rattle.model.specs.Classes.{setNumber}
 use Rattle.order.specs.Held.{asOrder}
-use Rattle.order_arrays.specs.Arrays.{setsOf}
+use Rattle.measure.specs.Arrays.{setsOf}
 use Rattle.order.proofs.Fields.{doses-is, top-grams-is, top-seconds-is, few-doses}
 use Rattle.classes.proofs.OverTop.{no-first, weight-fit, time-fit, slow-if, too-fast-above, too-fast-not}
 use Rattle.classes.proofs.too_fast.Statement.{statement}

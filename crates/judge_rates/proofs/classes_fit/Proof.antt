@@ -5,7 +5,7 @@ use borrow.Author.Count.{below-more}
 use borrow.Author.Needs.{needs}
 use lib.ListN.{getD-replicate}
 use Rattle.model.specs.Limits.{mostIntervals}
-use Rattle.order_arrays.specs.Arrays.{setsOf}
+use Rattle.measure.specs.Arrays.{setsOf}
 use Rattle.measure.proofs.Free.{Frees, frees-all}
 use Rattle.records.specs.Plan.{classIn}
 use Rattle.judge_clauses.specs.Tests.{ClassFits, fansIn, settingIn, orderHeld}

@@ -8,7 +8,7 @@ use borrow.Author.Needs.{needs}
 use lib.ListN.{length, getD}
 use Rattle.model.specs.Limits.{mostIntervals}
 use Rattle.model.specs.Sets.{on}
-use Rattle.order_arrays.specs.Arrays.{setOf, reaches}
+use Rattle.measure.specs.Arrays.{setOf, reaches}
 use Rattle.steps.proofs.Arrays.{all-same}
 use Rattle.steps.proofs.Tests.{on-most}
 use Rattle.steps.proofs.Loops.{at-end, weight-more, weight-none}

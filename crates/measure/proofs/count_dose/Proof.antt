@@ -8,7 +8,7 @@ use borrow.Author.Needs.{needs}
 use lib.ListN.{length, getD, length-set}
 use Rattle.model.specs.Limits.{mostIntervals}
 use Rattle.model.specs.Sets.{on}
-use Rattle.order_arrays.specs.Arrays.{within}
+use Rattle.measure.specs.Arrays.{within}
 use Rattle.steps.proofs.Loops.{stored, unreached}
 use Rattle.measure.proofs.count_dose.Statement.{statement}
 use Rattle.measure.proofs.count_dose.Tie as tie

@@ -5,7 +5,7 @@ use native.Mathlib.Omega.{arith}
 use borrow.Author.Needs.{needs}
 use lib.ListN.{getD}
 use Rattle.model.specs.Sets as sets
-use Rattle.order_arrays.specs.Arrays.{lenOf}
+use Rattle.measure.specs.Arrays.{lenOf}
 use Rattle.steps.proofs.Loops.{at-end, sum-none, sum-step}
 use Rattle.steps.proofs.Products.{fan-seconds}
 use Rattle.measure.proofs.fan_time.Statement.{statement}

@@ -4,7 +4,7 @@ use mathlib.Core.Path.{_≡_, refl}
 use Prim.Native.Nat.{ℕ, _-_, _<_, _≤_, _^_}
 use Rattle.model.specs.Sets.{weight}
 use Rattle.steps.proofs.Bits.{bits-next, bit-most}
-use Rattle.order_arrays.specs.Arrays.{setsOf}
+use Rattle.measure.specs.Arrays.{setsOf}
 use Rattle.steps.proofs.Loops.{at-end, weight-none}
 use borrow.Author.Needs.{needs}
 use native.Mathlib.Omega.{arith}

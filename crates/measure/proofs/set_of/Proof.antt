@@ -6,7 +6,7 @@ use lib.Dec.{eqb}
 use native.Mathlib.Omega.{arith}
 use borrow.Author.Needs.{needs}
 use Rattle.model.specs.Limits.{mostDoses}
-use Rattle.order_arrays.specs.Arrays.{setsOf}
+use Rattle.measure.specs.Arrays.{setsOf}
 use Rattle.steps.proofs.Loops.{DoneTo, done-none, done-next, done-all}
 use Rattle.measure.proofs.set_of.Statement.{statement}
 use Rattle.measure.proofs.set_of.Tie as tie

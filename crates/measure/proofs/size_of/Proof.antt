@@ -4,7 +4,7 @@ use mathlib.Core.Path.{_≡_}
 use native.Mathlib.Omega.{arith}
 use borrow.Author.Needs.{needs}
 use Rattle.model.specs.Sets.{weight}
-use Rattle.order_arrays.specs.Arrays.{setOf}
+use Rattle.measure.specs.Arrays.{setOf}
 use Rattle.steps.proofs.Loops.{weight-none, weight-step}
 use Rattle.measure.proofs.size_of.Statement.{statement}
 use Rattle.measure.proofs.size_of.Tie as tie

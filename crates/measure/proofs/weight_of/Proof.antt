@@ -6,7 +6,7 @@ use lib.ListN.{getD}
 use native.Mathlib.Omega.{arith}
 use borrow.Author.Needs.{needs}
 use Rattle.model.specs.Sets.{on, weight}
-use Rattle.order_arrays.specs.Arrays.{setOf}
+use Rattle.measure.specs.Arrays.{setOf}
 use Rattle.steps.proofs.Loops.{at-end, weight-none, weight-step}
 use Rattle.measure.proofs.weight_of.Statement.{statement}
 use Rattle.measure.proofs.weight_of.Tie as tie

@@ -2,7 +2,7 @@
 use mathlib.Core.Path.{_∙_}
 use native.Mathlib.Omega.{arith}
 use Rattle.model.proofs.Sets.{weight-alike}
-use Rattle.order_arrays.specs.Arrays.{setOf}
+use Rattle.measure.specs.Arrays.{setOf}
 use Rattle.plan.specs.Held.{classFrom, membersFrom}
 use borrow.Author.Needs.{needs}
 use Rattle.plan.proofs.write.class_from.Statement.{statement}

@@ -11,7 +11,7 @@ ghost use Prim.Native.Nat.{_<_, _≤_};
 ghost use lib.Dec.{ltb};
 ghost use Rattle.model.specs.Limits.{mostDoses, mostIntervals};
 ghost use Rattle.interval.specs.Held.{activeIn};
-ghost use Rattle.order_arrays.specs.Arrays.{GramsIn, LensIn, ActiveIn};
+ghost use Rattle.measure.specs.Arrays.{GramsIn, LensIn, ActiveIn};
 
 pub fn grams_in(o: Order) -> [u32; MOST_DOSES]
     requires { ⌜ o .count ≤ mostDoses ⌝ }

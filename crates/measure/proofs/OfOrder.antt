@@ -22,7 +22,7 @@ use Rattle.order.proofs.Fields.{doses-is, dose-is, few-doses}
 use Rattle.interval.specs.declared.Instants.{Instants}
 use Rattle.interval.specs.Held.{InstantsOf, activeIn}
 use Rattle.interval.proofs.Laws.{count-is, span-is, active-is}
-use Rattle.order_arrays.specs.Arrays.{ActiveIn, GramsIn, LensIn, activeOf, settingFrom, OrderArrays}
+use Rattle.measure.specs.Arrays.{ActiveIn, GramsIn, LensIn, activeOf, settingFrom, OrderArrays}
 use Rattle.steps.proofs.Tests.{and-false}
 
 module _ (o : Order) (fit : Fit (asOrder o)) (s : Instants) (of : InstantsOf o s) (J : ℕ) (eJ : J ≡ s .count - 1) (active : List Bool) (lens grams : List ℕ)

@@ -1,2 +1,0 @@
-pub mod OfOrder
-pub mod OneAnswer
