@@ -107,7 +107,7 @@ fn all_pass(
     if !judge_pairs::all_clear(plan, p, instants, intervals) {
         return false;
     }
-    judge_units::units_met(plan, p, numbers, grams, doses)
+    judge_slots::units_met(plan, p, numbers, grams, doses)
 }
 
 // The plan as its own certificate, for an order that is held in arrays.

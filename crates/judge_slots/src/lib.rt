@@ -1,4 +1,6 @@
-// The clauses of one slot (document 01, "A plan stands").
+// The clauses that go over the slots one by one (document 01, "A plan stands"): here those of each slot by itself.
+mod units; // units.rt: what the slots of each dose total
+
 use records::Class;
 use records::RECORD_SIZE;
 use records::Slot;
@@ -10,6 +12,7 @@ use records::starts;
 use steps::index;
 use steps::limits::MOST_DOSES;
 use steps::limits::MOST_INSTANTS;
+pub use units::units_met;
 ghost use mathlib.Core.Path.{_≡_};
 ghost use Prim.Native.Nat.{ℕ, _/_, _<_, _≤_};
 ghost use lib.ListN.{length, getD};

@@ -9,8 +9,8 @@ use Rattle.judge_clauses.specs.Tests.{needIn}
 use Rattle.judge_clauses.proofs.Tell.{tells-off, tells-on}
 use borrow.Author.Needs.{needs}
 use native.Mathlib.Omega.{arith}
-use Rattle.judge_units.proofs.sums_met.Statement.{statement}
-use Rattle.judge_units.proofs.sums_met.Tie as tie
+use Rattle.judge_slots.proofs.units.sums_met.Statement.{statement}
+use Rattle.judge_slots.proofs.units.sums_met.Tie as tie
 
 abbrev Inv-loop : tie.InvT-loop
 Inv-loop plan numbers grams doses sums k₀ k = (k ≤ doses) × ((i : ℕ) → i < k → getD sums i 0 ≡ needIn grams plan numbers i)

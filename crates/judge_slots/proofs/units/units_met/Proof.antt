@@ -6,11 +6,11 @@ use Rattle.model.specs.Limits.{mostDoses}
 use Rattle.records.specs.Held.{asSlot}
 use Rattle.judge_clauses.specs.Tests.{Counts, unitsUpTo}
 use Rattle.judge_clauses.proofs.Tell.{tells-by, tells-off}
-use Rattle.judge_units.proofs.Totals.{Summed, had-fits, over-need, summed-more, summed-none}
+use Rattle.judge_slots.proofs.Totals.{Summed, had-fits, over-need, summed-more, summed-none}
 use borrow.Author.Needs.{needs}
 use native.Mathlib.Omega.{arith}
-use Rattle.judge_units.proofs.units_met.Statement.{statement}
-use Rattle.judge_units.proofs.units_met.Tie as tie
+use Rattle.judge_slots.proofs.units.units_met.Statement.{statement}
+use Rattle.judge_slots.proofs.units.units_met.Tie as tie
 
 abbrev Inv-loop : tie.InvT-loop
 Inv-loop plan p numbers grams doses m sums₀ i₀ sums i = (m ≡ length plan / 32) × (p ≤ i) × (i ≤ m) × (length sums ≡ mostDoses) × Summed grams plan numbers doses p i sums
