@@ -2,15 +2,18 @@
 use mathlib.Core.Bool.{Bool, true, false, _&&_}
 use mathlib.Core.List.{List}
 use mathlib.Core.Logic.{inl, inr}
-use mathlib.Core.Path.{_≡_, refl, sym}
+use mathlib.Core.Path.{_≡_, refl, sym, ap, _∙_}
 use Prim.Native.Nat.{ℕ, _+_, _*_, _/_, _%_, _<_, _≤_}
 use native.Mathlib.Omega.{arith}
 use lib.Arith.{digits-div, digits-mod}
-use lib.Dec.{T}
+use borrow.Author.Tests.{lt-ltb, le-ltb}
+use lib.Dec.{T, ltb}
 use lib.ListN.{length, getD, List·getD-eq-default}
-use Rattle.model.specs.Limits.{mostIntervals}
-use Rattle.model.specs.Sets.{on, Doses}
+use Rattle.model.specs.Limits.{mostDoses, mostIntervals}
+use Rattle.model.specs.Sets.{on, Doses, Nonempty}
 use Rattle.model.proofs.Fractions.{compare≤}
+use Rattle.model.proofs.Sets.{Alike}
+use Rattle.measure.specs.Arrays.{setOf}
 use Rattle.steps.proofs.Tests.{and-false}
 use Rattle.class_rounds.specs.Rounds.{NonePast}
 
@@ -29,6 +32,17 @@ marks-both n dead set part e g all k = elim (compare≤ n k) [
   where
     past : (l : List Bool) → length l ≤ k → getD l k false ≡ false
     past l h = List·getD-eq-default l false {n = k} h
+
+-- the marks of doses, of an array with more marks: the same set of doses, and no other marks
+module _ (n : ℕ) (few : n ≤ mostDoses) (marks own : List Bool) (all : (k : ℕ) → k < mostDoses → getD own k false ≡ (ltb k n && getD marks k false)) where
+  pub own-alike : Alike n (setOf own) (setOf marks)
+  own-alike k l = all k (omega arith) ∙ ap (λ (b : Bool). b && getD marks k false) (lt-ltb k n l)
+
+  pub own-some : Nonempty n (setOf marks) → Nonempty n (setOf own)
+  own-some some = (some .0, some .1, rw (← own-alike (some .0) (some .1)) at (some .2))
+
+  pub own-none-past : NonePast n (setOf own)
+  own-none-past k g l = all k l ∙ ap (λ (b : Bool). b && getD marks k false) (le-ltb k n g)
 
 -- a set without members past the doses has no part there
 pub none-past : (n : ℕ) (A B : Doses) → ((k : ℕ) → T (A k) → T (B k)) → NonePast n B → NonePast n A

@@ -13,12 +13,13 @@ use steps::wide;
 ghost use mathlib.Core.Path.{_≡_};
 ghost use mathlib.Core.Bool.{false, _&&_};
 ghost use Prim.Native.Nat.{ℕ, _+_, _*_, _<_, _≤_};
+ghost use lib.Dec.{ltb};
 ghost use lib.ListN.{length, getD};
 ghost use Rattle.model.specs.Limits.{cells, mostWeight, mostDoses, mostIntervals, week};
 ghost use Rattle.model.specs.Sets.{Nonempty};
 ghost use Rattle.measure.specs.Arrays.{setOf, rowOf, Below, settingFrom, OrderArrays};
 ghost use Rattle.measure.specs.Measure.{Measured};
-ghost use Rattle.class_rounds.specs.Rounds.{RoomsTo, Rooms, Holds, Needs, NonePast, Tried, NextOf};
+ghost use Rattle.class_rounds.specs.Rounds.{RoomsTo, Rooms, Holds, Needs, Tried, NextOf};
 
 // "Its share in an interval of length L is at most L × W units, only where it is active": the rooms of dose k.
 fn lay_row(
@@ -103,6 +104,19 @@ fn dead_part(dead: [bool; MOST_MARKS], set: [bool; MOST_DOSES]) -> [bool; MOST_D
     part
 }
 
+// The marks of doses: what stands in the array past them marks none.
+fn doses_of(marks: [bool; MOST_DOSES], doses: usize) -> [bool; MOST_DOSES]
+    ensures { λ r. ⌜ ((k : ℕ) → k < mostDoses → getD r k false ≡ (ltb k doses && getD marks k false)) ⌝ }
+{
+    let mut own = [false; MOST_DOSES];
+    let mut k = 0;
+    while k < MOST_DOSES {
+        own[k] = both(k < doses, marks[k]);
+        k += 1;
+    }
+    own
+}
+
 // A candidate for the next class: whether its needs are met, and if not, the next candidate.
 struct Round {
     met: bool,
@@ -173,10 +187,10 @@ pub fn next_class(
     remaining: [bool; MOST_DOSES],
     sequence: [usize; MOST_DOSES],
 ) -> Class
-    requires { ⌜ (length (now x) ≡ cells) × OrderArrays doses intervals (now release) (now deadline) (now instants) (now active) (now lens) (now grams) × Nonempty doses (setOf remaining) × NonePast doses (setOf remaining) ⌝ }
+    requires { ⌜ (length (now x) ≡ cells) × OrderArrays doses intervals (now release) (now deadline) (now instants) (now active) (now lens) (now grams) × Nonempty doses (setOf remaining) ⌝ }
     ensures { λ r. ⌜ NextOf (settingFrom doses intervals (now (active .entry)) (now (lens .entry)) (now (grams .entry))) (rowOf free) (setOf remaining) r (now (x .exit)) ⌝ }
 {
-    let mut set = remaining;
+    let mut set = doses_of(remaining, doses);
     loop {
         let round = try_candidate(
             x,

@@ -19,7 +19,7 @@ next-class-requires c κs =
     let A = start .args in
     let arrays = start .pre .1 in
     let so = start .pre .2 in
-    (refl, arrays, some-remain (A .doses) (A .intervals) (A .active .now) (A .lens .now) (A .grams .now) (λ j. A .fans) (arrays .few-doses) (arrays .few-intervals) (A .tally) _ _ so (start .pre .3), so .past .no-rest)
+    (refl, arrays, some-remain (A .doses) (A .intervals) (A .active .now) (A .lens .now) (A .grams .now) (λ j. A .fans) (arrays .few-doses) (arrays .few-intervals) (A .tally) _ _ so (start .pre .3))
 
 reserve-requires : tie.Need-reserve-requires
 reserve-requires c κs = search needs
