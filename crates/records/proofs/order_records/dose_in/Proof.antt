@@ -18,7 +18,12 @@ read32-requires-3 c κs = search needs
 
 returns : tie.Need-returns
 unfolding fieldsAt
-returns c = cc
+returns c = λ i. record {
+  bay = c .before .before .before .read16 .ensures .0 i;
+  release = c .before .before .read32 .ensures .0 i;
+  deadline = c .before .read322 .ensures .0 i;
+  grams = c .read323 .ensures .0 i;
+}
 
 pub dose-in-spec : {M : Type 1} → statement M
 dose-in-spec =

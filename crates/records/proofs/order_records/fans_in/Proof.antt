@@ -15,7 +15,11 @@ read32-requires-2 c κs = search needs
 
 returns : tie.Need-returns
 unfolding fieldsAt
-returns c = cc
+returns c = λ i. record {
+  fans = c .before .before .read8 .ensures .0 i;
+  topGrams = c .before .read32 .ensures .0 i;
+  topSeconds = c .read322 .ensures .0 i;
+}
 
 pub fans-in-spec : {M : Type 1} → statement M
 fans-in-spec = tie.close (tie.spec read8-requires read32-requires read32-requires-2 returns)
