@@ -13,8 +13,8 @@ use Rattle.model.specs.Sets.{sum}
 use Rattle.model.proofs.Fractions.{compare≤}
 use Rattle.model.proofs.Sums.{sum-up}
 use Rattle.steps.proofs.Tests.{not-both, known, alike}
-use Rattle.steps.proofs.Loops.{sum-next}
-use Rattle.class_chains.specs.Chains.{unseenCount, cell, Seen, Unseen, got, given, Bounded, Kept, Exhausted, DoseUp, IntervalDown}
+use Rattle.steps.proofs.Loops.{sum-none, sum-more}
+use Rattle.class_chains.specs.Chains.{unseenCount, cell, Seen, Unseen, got, given, Sized, Bounded, Kept, Exhausted, DoseUp, IntervalDown}
 use Rattle.class_chains.proofs.Cells.{at-same, at-other-row, at-other-col, row-change, col-change, row-other, col-other, cell-row, cell-col}
 
 -- what holds below j, at j, and from there up to r
@@ -26,8 +26,25 @@ below-to P j r low here high i h = elim (compare≤ j i) [
 
 -- ---- sums as a loop makes them
 
-pub part-step : (n : ℕ) (f : ℕ → ℕ) (i s : ℕ) → i < n → s ≡ sum i f → (s + f i ≤ sum n f) × (s + f i ≡ sum (i + 1) f)
-part-step n f i s h e = let e′ : sum (i + 1) f ≡ sum i f + f i = sum-next i f in let p : sum (i + 1) f ≤ sum n f = sum-up f (i + 1) n (omega arith) in (omega arith, omega arith)
+-- the first i of the n terms of f are added up to s
+pub record Added (n : ℕ) (f : ℕ → ℕ) (i s : ℕ) : Type 0 where
+  pub within : i ≤ n
+  pub adds : s ≡ sum i f
+
+module _ {n : ℕ} {f : ℕ → ℕ} where
+  pub added-none : Added n f 0 0
+  added-none = record { within = omega arith; adds = sum-none f }
+
+  module _ {i s : ℕ} (so-far : Added n f i s) where
+    pub added-next : i < n → Added n f (i + 1) (s + f i)
+    added-next h = record { within = omega arith; adds = sum-more f i s (f i) (so-far .adds) refl }
+
+    -- one term more is at most the whole sum
+    pub added-most : i < n → s + f i ≤ sum n f
+    added-most h = omega (arith, added-next h .adds, sum-up f (i + 1) n (omega arith))
+
+    pub added-all : n ≤ i → s ≡ sum n f
+    added-all h = let e : i ≡ n = omega (arith, so-far .within) in rw e at (so-far .adds)
 
 pub given-sum : (x : List ℕ) (j : ℕ) → sum mostDoses (λ k. cell x k j) ≡ given x j
 unfolding given
@@ -115,8 +132,13 @@ pub kept-write : {s t : List Bool} {x y : List ℕ} (d j v : ℕ) → d < mostDo
 kept-write {s} {t} {x} {y} d j v hd hj p e f = record {
   more = p .more;
   fewer = p .fewer;
-  doses = λ d′ j′ hd′ hj′ h. getD-set-other y (d * mostIntervals + j) (d′ * mostIntervals + j′) v 0 (λ q. e (ap (λ (n : ℕ). getD s n false) (sym (cell-row mostIntervals d′ j′ d j hj′ hj q)) ∙ h)) ∙ p .doses d′ j′ hd′ hj′ h;
-  intervals = λ d′ j′ hd′ hj′ h. getD-set-other y (d * mostIntervals + j) (d′ * mostIntervals + j′) v 0 (λ q. f (ap (λ (n : ℕ). getD s (mostDoses + n) false) (sym (cell-col mostIntervals d′ j′ d j hj′ hj q)) ∙ h)) ∙ p .intervals d′ j′ hd′ hj′ h;
+  doses = λ d′ j′ hd′ hj′ h.
+      getD-set-other y (d * mostIntervals + j) (d′ * mostIntervals + j′) v 0 (λ q. e (ap (λ (n : ℕ). getD s n false) (sym (cell-row mostIntervals d′ j′ d j hj′ hj q)) ∙ h))
+      ∙ p .doses d′ j′ hd′ hj′ h;
+  intervals = λ d′ j′ hd′ hj′ h.
+      getD-set-other y (d * mostIntervals + j) (d′ * mostIntervals + j′) v 0
+      (λ q. f (ap (λ (n : ℕ). getD s (mostDoses + n) false) (sym (cell-col mostIntervals d′ j′ d j hj′ hj q)) ∙ h))
+      ∙ p .intervals d′ j′ hd′ hj′ h;
 }
 
 -- a search that starts by a mark has fewer stations left at each call
@@ -132,7 +154,8 @@ exhausted-none rooms holds least x s = record {
   intervals = λ e j he hj f t h. absurd (not-both t f);
 }
 
-pub exhausted-trans : {rooms holds x y z : List ℕ} {least : ℕ} {s t u : List Bool} → Exhausted rooms holds least x s t → Exhausted rooms holds least x t u → Kept t y u z → Exhausted rooms holds least x s u
+pub exhausted-trans : {rooms holds x y z : List ℕ} {least : ℕ} {s t u : List Bool} → Exhausted rooms holds least x s t → Exhausted rooms holds least x t u → Kept t y u z
+    → Exhausted rooms holds least x s u
 exhausted-trans {t = t} p q k = record {
   doses = λ e j he hj f h l. known (getD t e false) (λ m. k .more (mostDoses + j) (p .doses e j he hj f m l)) (λ m. q .doses e j he hj m h l);
   spares = λ j hj f h. known (getD t (mostDoses + j) false) (λ m. p .spares j hj f m) (λ m. q .spares j hj m h);
@@ -158,6 +181,10 @@ exhausted-interval s i hi p none all = record {
 }
 
 -- ---- totals
+
+-- the shares change, and keep their length
+pub sized-now : {x y rooms holds : List ℕ} → Sized x rooms holds → length y ≡ cells → Sized y rooms holds
+sized-now f e = record { shares = e; rooms = f .rooms; holds = f .holds }
 
 pub bounded-same : {rooms holds x y : List ℕ} → Bounded rooms holds x → y ≡ x → Bounded rooms holds y
 bounded-same f e = rw e f

@@ -1,24 +1,21 @@
 -- `dose_total` meets its contract: the sum so far is that of the intervals passed.
-use Prim.Native.Nat.{ℕ, _≤_, _-_}
-use mathlib.Core.Path.{_≡_, ap, _∙_}
+use Prim.Native.Nat.{_-_}
 use native.Mathlib.Omega.{arith}
 use borrow.Author.Needs.{needs}
 use Rattle.model.specs.Limits.{mostIntervals}
-use Rattle.model.specs.Sets.{sum}
-use Rattle.class_chains.specs.Chains.{cell}
-use Rattle.class_chains.proofs.Laws.{part-step, got-sum}
-use Rattle.steps.proofs.Loops.{sum-none}
+use Rattle.class_chains.specs.Chains.{cell, got}
+use Rattle.class_chains.proofs.Laws.{Added, added-none, added-next, added-most, added-all}
 use Rattle.class_chains.proofs.dose_total.Statement.{statement}
 use Rattle.class_chains.proofs.dose_total.Tie as tie
 
 abbrev Inv-loop : tie.InvT-loop
-Inv-loop x d need s₀ j₀ s j = (j ≤ mostIntervals) × (s ≡ sum j (λ i. cell x d i))
+Inv-loop x d need s₀ j₀ s j = Added mostIntervals (λ i. cell x d i) j s
 
 abbrev μ-loop : tie.MeasureT-loop
 μ-loop x d need s₀ j₀ s j = mostIntervals - j
 
 loop-holds : tie.Need-loop-holds Inv-loop μ-loop
-loop-holds c = (omega arith, sum-none _)
+loop-holds c = added-none
 
 mul-sum : tie.Need-mul-sum Inv-loop μ-loop
 mul-sum c = search needs
@@ -33,7 +30,8 @@ shared-slice-read-sum : tie.Need-shared-slice-read-sum Inv-loop μ-loop
 shared-slice-read-sum c = search needs
 
 add-sum-2 : tie.Need-add-sum-2 Inv-loop μ-loop
-add-sum-2 c = omega (arith, part-step mostIntervals (λ i. cell (c .before .before .before .args .shares .now) (c .before .before .before .args .d) i) (c .before .before .loop .j) (c .before .before .loop .sum) (omega arith) (c .before .before .loop .inv .1) .0, got-sum (c .before .before .before .args .shares .now) (c .before .before .before .args .d), c .before .before .before .pre .2)
+unfolding got
+add-sum-2 c = omega (arith, added-most (c .before .before .loop .inv) (c .before .loop-test .taken), c .before .before .before .pre .2)
 
 add-j : tie.Need-add-j Inv-loop μ-loop
 add-j c = search needs
@@ -42,10 +40,11 @@ loop-less : tie.Need-loop-less Inv-loop μ-loop
 loop-less c = search needs
 
 loop-again : tie.Need-loop-again Inv-loop μ-loop
-loop-again c = (omega arith, part-step mostIntervals (λ i. cell (c .before .before .before .args .shares .now) (c .before .before .before .args .d) i) (c .before .before .loop .j) (c .before .before .loop .sum) (omega arith) (c .before .before .loop .inv .1) .1)
+loop-again c = added-next (c .before .before .loop .inv) (c .before .loop-test .taken)
 
 returns : tie.Need-returns Inv-loop μ-loop
-returns c = let e : c .before .loop .j ≡ mostIntervals = omega arith in c .before .loop .inv .1 ∙ ap (λ (n : ℕ). sum n (λ i. cell (c .before .before .args .shares .now) (c .before .before .args .d) i)) e ∙ got-sum (c .before .before .args .shares .now) (c .before .before .args .d)
+unfolding got
+returns c = added-all (c .before .loop .inv) (omega arith)
 
 pub dose-total-spec : {M : Type 1} → statement M
 dose-total-spec =

@@ -1,24 +1,21 @@
 -- `interval_total` meets its contract: the sum so far is that of the doses passed.
-use Prim.Native.Nat.{ℕ, _≤_, _-_}
-use mathlib.Core.Path.{_≡_, ap, _∙_}
+use Prim.Native.Nat.{_-_}
 use native.Mathlib.Omega.{arith}
 use borrow.Author.Needs.{needs}
 use Rattle.model.specs.Limits.{mostDoses}
-use Rattle.model.specs.Sets.{sum}
-use Rattle.class_chains.specs.Chains.{cell}
-use Rattle.class_chains.proofs.Laws.{part-step, given-sum}
-use Rattle.steps.proofs.Loops.{sum-none}
+use Rattle.class_chains.specs.Chains.{cell, given}
+use Rattle.class_chains.proofs.Laws.{Added, added-none, added-next, added-most, added-all}
 use Rattle.class_chains.proofs.interval_total.Statement.{statement}
 use Rattle.class_chains.proofs.interval_total.Tie as tie
 
 abbrev Inv-loop : tie.InvT-loop
-Inv-loop x j holds s₀ d₀ s d = (d ≤ mostDoses) × (s ≡ sum d (λ k. cell x k j))
+Inv-loop x j holds s₀ d₀ s d = Added mostDoses (λ k. cell x k j) d s
 
 abbrev μ-loop : tie.MeasureT-loop
 μ-loop x j holds s₀ d₀ s d = mostDoses - d
 
 loop-holds : tie.Need-loop-holds Inv-loop μ-loop
-loop-holds c = (omega arith, sum-none _)
+loop-holds c = added-none
 
 mul-sum : tie.Need-mul-sum Inv-loop μ-loop
 mul-sum c = search needs
@@ -33,7 +30,8 @@ shared-slice-read-sum : tie.Need-shared-slice-read-sum Inv-loop μ-loop
 shared-slice-read-sum c = search needs
 
 add-sum-2 : tie.Need-add-sum-2 Inv-loop μ-loop
-add-sum-2 c = omega (arith, part-step mostDoses (λ k. cell (c .before .before .before .args .shares .now) k (c .before .before .before .args .j)) (c .before .before .loop .d) (c .before .before .loop .sum) (omega arith) (c .before .before .loop .inv .1) .0, given-sum (c .before .before .before .args .shares .now) (c .before .before .before .args .j), c .before .before .before .pre .2)
+unfolding given
+add-sum-2 c = omega (arith, added-most (c .before .before .loop .inv) (c .before .loop-test .taken), c .before .before .before .pre .2)
 
 add-d : tie.Need-add-d Inv-loop μ-loop
 add-d c = search needs
@@ -42,10 +40,11 @@ loop-less : tie.Need-loop-less Inv-loop μ-loop
 loop-less c = search needs
 
 loop-again : tie.Need-loop-again Inv-loop μ-loop
-loop-again c = (omega arith, part-step mostDoses (λ k. cell (c .before .before .before .args .shares .now) k (c .before .before .before .args .j)) (c .before .before .loop .d) (c .before .before .loop .sum) (omega arith) (c .before .before .loop .inv .1) .1)
+loop-again c = added-next (c .before .before .loop .inv) (c .before .loop-test .taken)
 
 returns : tie.Need-returns Inv-loop μ-loop
-returns c = let e : c .before .loop .d ≡ mostDoses = omega arith in c .before .loop .inv .1 ∙ ap (λ (n : ℕ). sum n (λ k. cell (c .before .before .args .shares .now) k (c .before .before .args .j))) e ∙ given-sum (c .before .before .args .shares .now) (c .before .before .args .j)
+unfolding given
+returns c = added-all (c .before .loop .inv) (omega arith)
 
 pub interval-total-spec : {M : Type 1} → statement M
 interval-total-spec =

@@ -39,7 +39,7 @@ less-requires : tie.Need-less-requires Inv-loop μ-loop
 less-requires c κs = search needs
 
 returns : tie.Need-returns Inv-loop μ-loop
-returns c = (c .before .before .before .before .before .loop .inv .0, c .before .before .before .before .before .loop .inv .1, c .before .before .before .before .before .loop .inv .2)
+returns c = c .before .before .before .before .before .loop .inv
 
 add-j : tie.Need-add-j Inv-loop μ-loop
 add-j c = search needs
@@ -49,11 +49,11 @@ loop-less c = search needs
 
 loop-again : tie.Need-loop-again Inv-loop μ-loop
 loop-again c =
-    let L = c .before .before .before .before .before .loop in
-    (omega arith, omega arith, λ i g h. alike i (L .j) (λ q. rw q (omega (arith, c .if1 .left, c .before .less .ensures))) (λ q. L .inv .2 i g (omega arith)))
+    let loop = c .before .before .before .before .before .loop in
+    (omega arith, omega arith, λ i g h. alike i (loop .j) (λ q. rw q (omega (arith, c .if1 .left, c .before .less .ensures))) (λ q. loop .inv .2 i g (omega arith)))
 
 returns-2 : tie.Need-returns-2 Inv-loop μ-loop
-returns-2 c = (c .before .loop .inv .0, c .before .loop .inv .1, c .before .loop .inv .2)
+returns-2 c = c .before .loop .inv
 
 pub next-way-spec : {M : Type 1} → statement M
 next-way-spec =
