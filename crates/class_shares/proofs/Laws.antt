@@ -2,14 +2,15 @@
 use Prim.Native.Nat.{ℕ, zero, suc, _+_, _-_, _*_, _<_, _≤_}
 use mathlib.Core.List.{List}
 use mathlib.Core.Bool.{Bool, false}
-use mathlib.Core.Path.{_≡_, refl}
+use mathlib.Core.Logic.{_≢_}
+use mathlib.Core.Path.{_≡_, refl, _∙_}
 use lib.ListN.{length, getD, set, replicate}
 use native.Mathlib.Omega.{arith}
 use Rattle.model.specs.Limits.{cells, mostDoses, mostIntervals}
 use Rattle.model.proofs.Sums.{sum-congr, sum-zero}
 use Rattle.steps.proofs.Tests.{not-both, known, alike}
-use Rattle.class_chains.specs.Chains.{cell, Seen, Unseen, got, given, Bounded, Kept, Exhausted, DoseUp, IntervalDown}
-use Rattle.class_chains.proofs.Laws.{interval-still, dose-write}
+use Rattle.class_chains.specs.Chains.{cell, Seen, Unseen, got, given, Bounded, Kept, Exhausted, DoseUp, IntervalDown, FromDose}
+use Rattle.class_chains.proofs.Laws.{kept-refl, kept-trans, exhausted-none, interval-still, dose-write}
 use Rattle.class_shares.specs.Share.{DoseRaised, Dead, Within, Took, Raised}
 
 -- ---- from search to search
@@ -60,6 +61,64 @@ raised-step least d p f hd = record {
   met = λ k hk h. alike k d (λ q. rw q (f .met (rw q at h))) (λ q. f .kept .more k (p .met k (omega arith) (omega (arith, f .others k (omega arith) q))));
 }
 
+-- ---- one dose
+
+-- dose d is raised so far: x at the start, y now. What is dead, s, was left alone.
+pub record DoseRising (rooms holds : List ℕ) (d need : ℕ) (s : List Bool) (x y : List ℕ) : Type 0 where
+  pub shares : length y ≡ cells
+  pub bounded : Bounded rooms holds y
+  pub own : got y d ≤ need
+  pub others : (k : ℕ) → k < mostDoses → k ≢ d → got y k ≡ got x k
+  pub kept : Kept s x s y
+
+module _ {rooms holds : List ℕ} {d need : ℕ} {s : List Bool} {x : List ℕ} where
+  pub rising-none : length x ≡ cells → Bounded rooms holds x → got x d ≤ need → DoseRising rooms holds d need s x x
+  rising-none sized bounded h = record { shares = sized; bounded = bounded; own = h; others = λ k l q. refl; kept = kept-refl s x }
+
+  module _ {y : List ℕ} (so-far : DoseRising rooms holds d need s x y) where
+    -- no search is needed any more
+    pub rising-met : {least : ℕ} → need < got y d + least → DoseRaised rooms holds least d need s x s y
+    rising-met h = record {
+      bounded = so-far .bounded;
+      kept = so-far .kept;
+      exhausted = exhausted-none rooms holds _ y s;
+      own = so-far .own;
+      others = so-far .others;
+      met = λ l. absurd (let z : ⊥ = omega arith in z);
+    }
+
+    module _ {least miss a : ℕ} {t : List Bool} {z : List ℕ} (missed : miss ≡ need - got y d) (called : FromDose rooms holds least d miss s y a t z) where
+      -- the search pushed something, so that less is missing
+      pub rising-more : length z ≡ cells → DoseRising rooms holds d need s x z
+      rising-more sized = record {
+        shares = sized;
+        bounded = called .up .bounded;
+        own = omega (arith, called .up .own, called .pushed .within, so-far .own);
+        others = λ k h q. called .up .others k h q ∙ so-far .others k h q;
+        kept = kept-trans (so-far .kept) (kept-drop (called .pushed .kept));
+      }
+
+      pub rising-less : 0 < a → need - got z d < need - got y d
+      rising-less some = omega (arith, called .up .own, called .pushed .within, so-far .own)
+
+      -- it pushed nothing: no chain is left
+      pub rising-in-vain : a ≡ 0 → DoseRaised rooms holds least d need s x t z
+      rising-in-vain none = record {
+        bounded = called .up .bounded;
+        kept = kept-trans (so-far .kept) (called .pushed .kept);
+        exhausted = exhausted-same (called .pushed .same none) (called .pushed .exhausted none);
+        own = omega (arith, called .up .own, so-far .own);
+        others = λ k h q. called .up .others k h q ∙ so-far .others k h q;
+        met = λ h. called .pushed .marks (omega (arith, called .up .own));
+      }
+
+-- the last pass so far had the threshold `least`
+pub record Passed (rooms holds needs : List ℕ) (top least : ℕ) (s : List Bool) (x : List ℕ) : Type 0 where
+  pub shares : length x ≡ cells
+  pub some : 1 ≤ least
+  pub fallen : least ≤ top
+  pub raised : Raised rooms holds needs least mostDoses s x
+
 -- ---- first shares
 
 pub within-none : {rooms holds needs x : List ℕ} → ((i : ℕ) → i < cells → getD x i 0 ≡ 0) → Within rooms holds needs x
@@ -89,4 +148,20 @@ pub within-took : {rooms holds needs x y : List ℕ} (d miss rest : ℕ) → Wit
 within-took d miss rest g e t = record {
   bounded = t .bounded;
   needed = λ k hk. alike k d (λ q. rw q (omega (arith, t .own, e))) (λ q. omega (arith, t .others k hk q, g .needed k hk));
+}
+
+-- dose d has taken what it found in the first j intervals, and misses so much
+pub record Taking (rooms holds needs : List ℕ) (d j miss : ℕ) (x : List ℕ) : Type 0 where
+  pub passed : j ≤ mostIntervals
+  pub shares : length x ≡ cells
+  pub within : Within rooms holds needs x
+  pub missing : got x d + miss ≡ getD needs d 0
+
+pub taking-next : {rooms holds needs x y : List ℕ} {d j miss rest : ℕ} → Taking rooms holds needs d j miss x → j < mostIntervals → length y ≡ cells
+    → Took rooms holds d miss x rest y → Taking rooms holds needs d (j + 1) rest y
+taking-next f h sized t = record {
+  passed = omega arith;
+  shares = sized;
+  within = within-took _ _ _ (f .within) (f .missing) t;
+  missing = omega (arith, t .own, f .missing);
 }

@@ -1,12 +1,11 @@
 -- `clear` meets its contract: every place passed is 0.
 use Prim.Native.Nat.{ℕ, _<_, _≤_, _-_}
-use mathlib.Core.Path.{_≡_, _∙_}
+use mathlib.Core.Path.{_≡_, refl}
 use lib.ListN.{length, getD, length-set}
 use native.Mathlib.Omega.{arith}
-use lib.Seq.{getD-set-same, getD-set-other}
 use borrow.Author.Needs.{needs}
 use Rattle.model.specs.Limits.{cells}
-use Rattle.steps.proofs.Tests.{alike}
+use Rattle.steps.proofs.Loops.{stored}
 use Rattle.class_shares.proofs.clear.Statement.{statement}
 use Rattle.class_shares.proofs.clear.Tie as tie
 
@@ -33,8 +32,8 @@ loop-less c = search needs
 
 loop-again : tie.Need-loop-again Inv-loop μ-loop
 loop-again c =
-    let L = c .before .loop in
-    (omega arith, simp length-set (L .inv .1), λ k h. alike k (L .i) (λ q. rw q (getD-set-same (L .shares) (L .i) 0 0 (omega arith))) (λ q. getD-set-other (L .shares) (L .i) k 0 0 q ∙ L .inv .2 k (omega arith)))
+    let loop = c .before .loop in
+    (omega arith, simp length-set (loop .inv .1), stored 0 (λ k. 0) (loop .shares) (loop .i) 0 (omega arith) (loop .inv .2) refl)
 
 same-length : tie.Need-same-length Inv-loop μ-loop
 same-length c = omega arith

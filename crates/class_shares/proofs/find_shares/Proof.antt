@@ -5,6 +5,7 @@ use lib.ListN.{length}
 use native.Mathlib.Omega.{arith}
 use borrow.Author.Needs.{needs}
 use Rattle.model.specs.Limits.{cells, mostDoses}
+use Rattle.class_chains.proofs.Laws.{sized-now}
 use Rattle.class_shares.specs.Share.{Within}
 use Rattle.class_shares.proofs.Laws.{within-none}
 use Rattle.class_shares.proofs.find_shares.Statement.{statement}
@@ -15,6 +16,10 @@ Inv-loop x₀ rooms holds needs order i₀ x i = (i ≤ mostDoses) × (length x 
 
 abbrev μ-loop : tie.MeasureT-loop
 μ-loop x₀ rooms holds needs order i₀ x i = mostDoses - i
+
+-- back from the loop's test to the entry
+abbrev entry : tie.At-loop Inv-loop μ-loop → tie.Start Inv-loop μ-loop
+entry loop = loop .before .before .before .before .before .before .before .before .before
 
 clear-requires : tie.Need-clear-requires Inv-loop μ-loop
 clear-requires c κs = c .before .before .before .before .before .pre .0 .shares
@@ -29,7 +34,10 @@ array-read-d : tie.Need-array-read-d Inv-loop μ-loop
 array-read-d c = search needs
 
 first-shares-requires : tie.Need-first-shares-requires Inv-loop μ-loop
-first-shares-requires c κs = (record { shares = c .before .before .loop .inv .1; rooms = c .before .before .before .before .before .before .before .before .before .before .before .pre .0 .rooms; holds = c .before .before .before .before .before .before .before .before .before .before .before .pre .0 .holds }, c .before .before .loop .inv .2, c .before .before .before .before .before .before .before .before .before .before .before .pre .1)
+first-shares-requires c κs =
+    let loop = c .before .before in
+    let asked = entry loop .pre in
+    (sized-now (asked .0) (loop .loop .inv .1), loop .loop .inv .2, asked .1)
 
 add-i : tie.Need-add-i Inv-loop μ-loop
 add-i c = search needs
@@ -41,10 +49,17 @@ loop-again : tie.Need-loop-again Inv-loop μ-loop
 loop-again c = (omega arith, (search needs), c .before .before .first-shares .ensures)
 
 largest-shortage-requires : tie.Need-largest-shortage-requires Inv-loop μ-loop
-largest-shortage-requires c κs = (c .before .before .loop .inv .1, c .before .before .before .before .before .before .before .before .before .before .before .pre .1, c .before .before .loop .inv .2 .needed)
+largest-shortage-requires c κs =
+    let loop = c .before .before in
+    let asked = entry loop .pre in
+    (loop .loop .inv .1, asked .1, loop .loop .inv .2 .needed)
 
 raise-requires : tie.Need-raise-requires Inv-loop μ-loop
-raise-requires c κs = (record { shares = c .before .before .before .before .loop .inv .1; rooms = c .before .before .before .before .before .before .before .before .before .before .before .before .before .pre .0 .rooms; holds = c .before .before .before .before .before .before .before .before .before .before .before .before .before .pre .0 .holds }, c .before .before .before .before .loop .inv .2, c .before .before .before .before .before .before .before .before .before .before .before .before .before .pre .1, c .before .largest-shortage .ensures)
+raise-requires c κs =
+    let top = c .before in
+    let loop = top .before .before .before in
+    let asked = entry loop .pre in
+    (sized-now (asked .0) (loop .loop .inv .1), loop .loop .inv .2, asked .1, top .largest-shortage .ensures)
 
 same-length : tie.Need-same-length Inv-loop μ-loop
 same-length c = omega arith

@@ -20,7 +20,9 @@ shared-slice-read-if1 : tie.Need-shared-slice-read-if1
 shared-slice-read-if1 c = search needs
 
 returns : tie.Need-returns
-returns c = took-none (c .before .before .before .before .before .args .d) (c .before .before .before .before .before .args .miss) (c .before .before .before .before .before .pre .1)
+returns c =
+    let entry = c .before .before .before .before .before in
+    took-none (entry .args .d) (entry .args .miss) (entry .pre .1)
 
 mul-most : tie.Need-mul-most
 mul-most c = search needs
@@ -29,7 +31,9 @@ shared-slice-read-most : tie.Need-shared-slice-read-most
 shared-slice-read-most c = search needs
 
 interval-total-requires : tie.Need-interval-total-requires
-interval-total-requires c κs = (c .before .before .before .before .before .before .before .pre .0 .shares, c .before .before .before .before .before .before .before .pre .3, c .before .before .before .before .before .before .before .pre .1 .held _ (c .before .before .before .before .before .before .before .pre .3))
+interval-total-requires c κs =
+    let asked = c .before .before .before .before .before .before .before .pre in
+    (asked .0 .shares, asked .3, asked .1 .held _ (asked .3))
 
 less-requires : tie.Need-less-requires
 less-requires c κs = search needs
@@ -63,8 +67,17 @@ slice-read-shares c = search needs
 
 add-shares : tie.Need-add-shares
 add-shares c =
-    let C = c .before .before .before .before .before .before .before .before .before .before .before .before .before .before .before in
-    omega (arith, c .before .before .before .before .before .shared-slice-known5 .given (C .args .d * mostIntervals + C .args .j), C .pre .1 .roomy (C .args .d) (C .args .j) (C .pre .2) (C .pre .3), c .before .before .before .less2 .ensures, c .before .before .smaller .ensures, c .before .smaller2 .ensures)
+    let room = c .before .before .before in
+    let known = room .before .before in
+    let entry = known .before .before .before .before .before .before .before .before .before .before in
+    omega (
+      arith,
+      known .shared-slice-known5 .given (entry .args .d * mostIntervals + entry .args .j),
+      entry .pre .1 .roomy (entry .args .d) (entry .args .j) (entry .pre .2) (entry .pre .3),
+      room .less2 .ensures,
+      c .before .before .smaller .ensures,
+      c .before .smaller2 .ensures,
+    )
 
 mul-shares-2 : tie.Need-mul-shares-2
 mul-shares-2 c = search needs
@@ -78,15 +91,19 @@ sub-result c = omega (arith, c .before .smaller2 .ensures)
 same-length : tie.Need-same-length
 same-length c = search needs
 
+-- what the dose takes is at most what it misses, its room, and the spare time
 returns-2 : tie.Need-returns-2
 returns-2 c =
-    let C = c .before .before .before .before .before .before .before .before .before .before .before .before .before .before .before in
-    let inner = c .before .before .smaller .ensures in
-    let outer = c .before .smaller2 .ensures in
-    took-more (C .args .d) (C .args .j) (C .args .miss) (c .before .smaller2 .result) (C .pre .2) (C .pre .3) (C .pre .0 .shares) (C .pre .1)
-    (omega (arith, outer))
-    (omega (arith, outer, inner, c .before .before .before .less2 .ensures))
-    (omega (arith, outer, inner, c .before .before .before .before .before .before .less .ensures, c .before .before .before .before .before .before .before .interval-total .ensures))
+    let capped = c .before in
+    let fits = capped .before in
+    let room = fits .before in
+    let spare = room .before .before .before in
+    let total = spare .before in
+    let entry = total .before .before .before .before .before .before .before .before in
+    took-more (entry .args .d) (entry .args .j) (entry .args .miss) (capped .smaller2 .result) (entry .pre .2) (entry .pre .3) (entry .pre .0 .shares) (entry .pre .1)
+    (omega (arith, capped .smaller2 .ensures))
+    (omega (arith, capped .smaller2 .ensures, fits .smaller .ensures, room .less2 .ensures))
+    (omega (arith, capped .smaller2 .ensures, fits .smaller .ensures, spare .less .ensures, total .interval-total .ensures))
 
 pub first-share-spec : {M : Type 1} → statement M
 first-share-spec =

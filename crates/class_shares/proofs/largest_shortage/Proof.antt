@@ -21,7 +21,10 @@ shared-slice-read-need : tie.Need-shared-slice-read-need Inv-loop μ-loop
 shared-slice-read-need c = search needs
 
 dose-total-requires : tie.Need-dose-total-requires Inv-loop μ-loop
-dose-total-requires c κs = (c .before .before .before .before .before .pre .0, c .before .loop-test .taken, c .before .before .before .before .before .pre .2 _ (c .before .loop-test .taken))
+dose-total-requires c κs =
+    let test = c .before in
+    let asked = test .before .before .before .before .pre in
+    (asked .0, test .loop-test .taken, asked .2 _ (test .loop-test .taken))
 
 less-requires : tie.Need-less-requires Inv-loop μ-loop
 less-requires c κs = search needs

@@ -27,10 +27,16 @@ shared-slice-read-need : tie.Need-shared-slice-read-need Inv-loop μ-loop
 shared-slice-read-need c = search needs
 
 dose-total-requires : tie.Need-dose-total-requires Inv-loop μ-loop
-dose-total-requires c κs = (c .before .before .before .before .before .pre .0, c .before .loop-test .taken, c .before .before .before .before .before .pre .2 _ (c .before .loop-test .taken))
+dose-total-requires c κs =
+    let test = c .before in
+    let asked = test .before .before .before .before .pre in
+    (asked .0, test .loop-test .taken, asked .2 _ (test .loop-test .taken))
 
+-- a dose has too little
 returns : tie.Need-returns Inv-loop μ-loop
-returns c = record { all = λ e. absurd (not-both e refl); some = λ e. (c .before .before .before .before .loop .k, c .before .before .before .loop-test .taken, omega (arith, c .before .dose-total .ensures, c .if1 .taken)) }
+returns c =
+    let test = c .before .before .before in
+    record { all = λ e. absurd (not-both e refl); some = λ e. (test .before .loop .k, test .loop-test .taken, omega (arith, c .before .dose-total .ensures, c .if1 .taken)) }
 
 add-k : tie.Need-add-k Inv-loop μ-loop
 add-k c = search needs
@@ -39,7 +45,11 @@ loop-less : tie.Need-loop-less Inv-loop μ-loop
 loop-less c = search needs
 
 loop-again : tie.Need-loop-again Inv-loop μ-loop
-loop-again c = (omega arith, below-more _ (c .before .before .before .before .loop .k) (λ i h. c .before .before .before .before .loop .inv .1 i h) (omega (arith, c .before .dose-total .ensures, c .if1 .left, c .before .before .before .before .before .before .before .pre .2 (c .before .before .before .before .loop .k) (c .before .before .before .loop-test .taken))))
+loop-again c =
+    let test = c .before .before .before in
+    let loop = test .before .loop in
+    let asked = test .before .before .before .before .pre in
+    (omega arith, below-more _ (loop .k) (loop .inv .1) (omega (arith, c .before .dose-total .ensures, c .if1 .left, asked .2 (loop .k) (test .loop-test .taken))))
 
 returns-2 : tie.Need-returns-2 Inv-loop μ-loop
 returns-2 c = record { all = λ e k h. c .before .loop .inv .1 k (omega arith); some = λ e. absurd (not-both refl e) }

@@ -5,6 +5,7 @@ use lib.ListN.{length}
 use native.Mathlib.Omega.{arith}
 use borrow.Author.Needs.{needs}
 use Rattle.model.specs.Limits.{cells, mostDoses, mostMarks}
+use Rattle.class_chains.proofs.Laws.{sized-now}
 use Rattle.class_shares.specs.Share.{Raised}
 use Rattle.class_shares.proofs.Laws.{raised-none, raised-step, all-false}
 use Rattle.class_shares.proofs.raise_pass.Statement.{statement}
@@ -17,7 +18,9 @@ abbrev μ-loop : tie.MeasureT-loop
 μ-loop x₀ rooms holds needs least dead₀ d₀ x dead d = mostDoses - d
 
 loop-holds : tie.Need-loop-holds Inv-loop μ-loop
-loop-holds c = (omega arith, c .before .before .before .before .pre .0 .shares, raised-none _ (all-false mostMarks) (c .before .before .before .before .pre .1))
+loop-holds c =
+    let asked = c .before .before .before .before .pre in
+    (omega arith, asked .0 .shares, raised-none _ (all-false mostMarks) (asked .1))
 
 mul-need : tie.Need-mul-need Inv-loop μ-loop
 mul-need c = search needs
@@ -27,8 +30,11 @@ shared-slice-read-need c = search needs
 
 raise-dose-requires : tie.Need-raise-dose-requires Inv-loop μ-loop
 raise-dose-requires c κs =
-    let L = c .before .before .before .loop in
-    (record { shares = L .inv .1; rooms = c .before .before .before .before .before .before .before .before .pre .0 .rooms; holds = c .before .before .before .before .before .before .before .before .pre .0 .holds }, L .inv .2 .within .bounded, c .before .before .loop-test .taken, c .before .before .before .before .before .before .before .before .pre .3, L .inv .2 .within .needed (L .d) (c .before .before .loop-test .taken))
+    let test = c .before .before in
+    let loop = test .before in
+    let asked = loop .before .before .before .before .before .pre in
+    let within = loop .loop .inv .2 .within in
+    (sized-now (asked .0) (loop .loop .inv .1), within .bounded, test .loop-test .taken, asked .3, within .needed (loop .loop .d) (test .loop-test .taken))
 
 add-d : tie.Need-add-d Inv-loop μ-loop
 add-d c = search needs
@@ -37,7 +43,11 @@ loop-less : tie.Need-loop-less Inv-loop μ-loop
 loop-less c = search needs
 
 loop-again : tie.Need-loop-again Inv-loop μ-loop
-loop-again c = (omega arith, (search needs), raised-step _ (c .before .before .before .before .before .before .loop .d) (c .before .before .before .before .before .before .loop .inv .2) (c .before .before .raise-dose .ensures) (c .before .before .before .before .before .loop-test .taken))
+loop-again c =
+    let called = c .before .before in
+    let test = called .before .before .before in
+    let loop = test .before .loop in
+    (omega arith, search needs, raised-step _ (loop .d) (loop .inv .2) (called .raise-dose .ensures) (test .loop-test .taken))
 
 same-length : tie.Need-same-length Inv-loop μ-loop
 same-length c = omega arith
