@@ -22,11 +22,11 @@ use Rattle.classes.specs.declared.TooFast.{TooFast}
 use Rattle.classes.specs.Phase.{classesIn}
 use Rattle.classes.specs.Answer.{ClassesOf, notAbove, AgainstTop}
 
-module _ (o : Order) (fit : Fit o) where
+module _ {o : Order} (fit : Fit o) where
   abbrev S : Setting
   S = settingOf o
 
-  module _ (t : Tally) (c : ClassesOf o t) where
+  module _ {t : Tally} (c : ClassesOf o t) where
     -- no class: no dose
     pub no-first : t .class ≡ 0 → (A : Doses) → FirstClass o A → ⊥
     unfolding remaining

@@ -32,27 +32,30 @@ cast-phases c = search needs
 
 phases-requires : tie.Need-phases-requires
 phases-requires c κs =
-    let start = c .before .before .before .before .before .before .before .before .before .before .before .before .before .before .before .before .before .before .before in
-    let o = start .args .o in
-    let s = c .before .before .before .before .before .before .before .before .before .before .before .before .before .before .before .before .instants-of in
-    let J = c .before .before .before .before .before .before .before .before .before .before .before .before .before .before .interval-count in
-    let active = c .before .before .before .before .before .before .before .before .before .before .before .before .before .active-in-order in
-    let lens = c .before .before .before .before .before .before .before .before .before .before .before .before .lens-in in
-    let grams = c .before .before .before .before .before .before .before .before .before .before .before .grams-in in
-    (refl, refl, arrays o (start .pre) (s .result) (s .ensures) (J .result) (J .ensures) (active .result) (lens .result) (grams .result) (active .ensures) (lens .ensures) (grams .ensures), blank)
+    let grams = c .before .before .before .before .before .before .before .before .before .before .before in
+    let lens = grams .before in
+    let active = lens .before in
+    let count = active .before in
+    let instants = count .before .before in
+    let entry = instants .before .before .before in
+    let read =
+    arrays (entry .args .o) (entry .pre) (instants .instants-of .result) (instants .instants-of .ensures) (count .interval-count .result) (count .interval-count .ensures)
+    (active .active-in-order .result) (lens .lens-in .result) (grams .grams-in .result) (active .active-in-order .ensures) (lens .lens-in .ensures) (grams .grams-in .ensures) in
+    (refl, refl, read, blank)
 
 returns : tie.Need-returns
 returns c =
-    let start = c .before .before .before .before .before .before .before .before .before .before .before .before .before .before .before .before .before .before .before .before in
-    let o = start .args .o in
-    let s = c .before .before .before .before .before .before .before .before .before .before .before .before .before .before .before .before .before .instants-of in
-    let J = c .before .before .before .before .before .before .before .before .before .before .before .before .before .before .before .interval-count in
-    let active = c .before .before .before .before .before .before .before .before .before .before .before .before .before .before .active-in-order in
-    let lens = c .before .before .before .before .before .before .before .before .before .before .before .before .before .lens-in in
-    let grams = c .before .before .before .before .before .before .before .before .before .before .before .before .grams-in in
-    let fit = start .pre in
-    of-order (asOrder o) fit _ _ (active .result) (lens .result) (grams .result) (agree o fit (s .result) (s .ensures) (J .result) (J .ensures) (active .result) (lens .result) (grams .result) (active .ensures) (lens .ensures) (grams .ensures))
-    _ (fans-is o) _ _ _ (c .phases .ensures .0) (c .phases .ensures .1)
+    let grams = c .before .before .before .before .before .before .before .before .before .before .before .before in
+    let lens = grams .before in
+    let active = lens .before in
+    let count = active .before in
+    let instants = count .before .before in
+    let entry = instants .before .before .before in
+    let read =
+    agree (entry .args .o) (entry .pre) (instants .instants-of .result) (instants .instants-of .ensures) (count .interval-count .result) (count .interval-count .ensures)
+    (active .active-in-order .result) (lens .lens-in .result) (grams .grams-in .result) (active .active-in-order .ensures) (lens .lens-in .ensures) (grams .grams-in .ensures) in
+    of-order (asOrder (entry .args .o)) (entry .pre) _ _ (active .active-in-order .result) (lens .lens-in .result) (grams .grams-in .result) read _ (fans-is (entry .args .o)) _ _ _
+    (c .phases .ensures .0) (c .phases .ensures .1)
 
 pub classes-of-spec : {M : Type 1} → statement M
 classes-of-spec =

@@ -12,7 +12,8 @@ use Rattle.classes.proofs.keep_shares.Statement.{statement}
 use Rattle.classes.proofs.keep_shares.Tie as tie
 
 abbrev Inv-loop : tie.InvT-loop
-Inv-loop shares₀ x members i₀ shares i = DoneTo 0 cells (λ m. choose (getD members (m / mostIntervals) false) (getD x m 0) (getD shares₀ m 0)) i shares × ((m : ℕ) → i ≤ m → getD shares m 0 ≡ getD shares₀ m 0)
+Inv-loop shares₀ x members i₀ shares i =
+    DoneTo 0 cells (λ m. choose (getD members (m / mostIntervals) false) (getD x m 0) (getD shares₀ m 0)) i shares × ((m : ℕ) → i ≤ m → getD shares m 0 ≡ getD shares₀ m 0)
 
 abbrev μ-loop : tie.MeasureT-loop
 μ-loop shares₀ x members i₀ shares i = cells - i

@@ -12,7 +12,8 @@ use Rattle.classes.proofs.phases.Statement.{statement}
 use Rattle.classes.proofs.phases.Tie as tie
 
 abbrev Inv-loop : tie.InvT-loop
-Inv-loop shares₀ table₀ release deadline instants active lens grams doses intervals fans sequence tally₀ shares table tally = (length shares ≡ cells) × (tally .classed ≤ doses) × SoFar (settingFrom doses intervals active lens grams) (λ j. fans) tally table shares
+Inv-loop shares₀ table₀ release deadline instants active lens grams doses intervals fans sequence tally₀ shares table tally =
+    (length shares ≡ cells) × (tally .classed ≤ doses) × SoFar (settingFrom doses intervals active lens grams) (λ j. fans) tally table shares
 
 abbrev μ-loop : tie.MeasureT-loop
 μ-loop shares₀ table₀ release deadline instants active lens grams doses intervals fans sequence tally₀ shares table tally = doses - tally .classed
@@ -22,19 +23,30 @@ start-requires c κs = search needs
 
 loop-holds : tie.Need-loop-holds Inv-loop μ-loop
 loop-holds c =
-    let A = c .before .before .args in
-    let arrays = c .before .before .pre .2 in
-    let z = c .start .ensures in
-    (c .before .before .pre .0, omega (arith, z .classed), so-far-start (A .doses) (A .intervals) (A .active .now) (A .lens .now) (A .grams .now) (λ j. A .fans) (arrays .few-doses) (arrays .few-intervals) _ _ _ z (c .before .before .pre .1) (c .before .before .pre .3))
+    let entry = c .before .before in
+    let A = entry .args in
+    let arrays = entry .pre .2 in
+    let none = c .start .ensures in (
+      entry .pre .0,
+      omega (arith, none .classed),
+      so-far-start (A .doses) (A .intervals) (A .active .now) (A .lens .now) (A .grams .now) (λ j. A .fans) (arrays .few-doses) (arrays .few-intervals) _ _ _ none (entry .pre .1) (entry .pre .3),
+    )
 
 phase-requires : tie.Need-phase-requires Inv-loop μ-loop
-phase-requires c κs = (c .before .before .before .before .loop .inv .0, c .before .before .before .before .before .before .before .pre .2, c .before .before .before .before .loop .inv .2, c .before .before .if1 .taken)
+phase-requires c κs =
+    let test = c .before .before in
+    let loop = test .before .before in
+    (loop .loop .inv .0, loop .before .before .before .pre .2, loop .loop .inv .2, test .if1 .taken)
 
 loop-less : tie.Need-loop-less Inv-loop μ-loop
-loop-less c = omega (arith, c .before .before .phase .ensures .1, c .before .before .before .before .before .if1 .taken)
+loop-less c =
+    let phase = c .before .before in
+    omega (arith, phase .phase .ensures .1, phase .before .before .before .if1 .taken)
 
 loop-again : tie.Need-loop-again Inv-loop μ-loop
-loop-again c = (search needs, omega (arith, c .before .before .phase .ensures .0 .counted), c .before .before .phase .ensures .0)
+loop-again c =
+    let more = c .before .before .phase .ensures .0 in
+    (search needs, omega (arith, more .counted), more)
 
 same-length : tie.Need-same-length Inv-loop μ-loop
 same-length c = search needs

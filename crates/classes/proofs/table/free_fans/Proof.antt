@@ -38,7 +38,9 @@ loop-less : tie.Need-loop-less Inv-loop μ-loop
 loop-less c = search needs
 
 loop-again : tie.Need-loop-again Inv-loop μ-loop
-loop-again c = done-next (c .before .before .before .loop .inv) (omega arith) (c .less .ensures ∙ ap (λ (n : ℕ). c .before .before .before .before .args .fans - n) (c .before .reserved-before .ensures))
+loop-again c =
+    let loop = c .before .before .before in
+    done-next (loop .loop .inv) (omega arith) (c .less .ensures ∙ ap (λ (n : ℕ). loop .before .args .fans - n) (c .before .reserved-before .ensures))
 
 returns : tie.Need-returns Inv-loop μ-loop
 returns c = done-all (c .before .loop .inv) (omega arith)

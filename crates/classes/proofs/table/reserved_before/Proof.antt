@@ -1,5 +1,5 @@
 -- `reserved_before` meets its contract: the sum so far is that of the rows passed.
-use Prim.Native.Nat.{_≤_, _-_, _*_}
+use Prim.Native.Nat.{_+_, _≤_, _-_, _*_}
 use mathlib.Core.Path.{_≡_, _∙_}
 use native.Mathlib.Omega.{arith}
 use borrow.Author.Needs.{needs}
@@ -33,12 +33,19 @@ of-byte-requires c κs = search needs
 wide-requires : tie.Need-wide-requires Inv-loop μ-loop
 wide-requires c κs = search needs
 
+-- one row more
+more : (c : tie.After-wide Inv-loop μ-loop)
+    → let loop = c .before .before .before .before in
+    let A = loop .before .args in
+    let s = loop .loop .sum + c .wide .result in
+    (s ≡ sum (loop .loop .i + 1) (λ i. rowAt (A .table .now) i (A .j))) × (s ≤ (loop .loop .i + 1) * 255)
+more c =
+    let byte = c .before .of-byte .ensures in
+    let loop = c .before .before .before .before .loop in
+    sum-step 255 (loop .i) (loop .sum) (c .wide .result) _ (loop .inv .1) (loop .inv .2) (c .wide .ensures .0 ∙ byte .0) (omega (arith, c .wide .ensures .0, byte .1))
+
 add-sum : tie.Need-add-sum Inv-loop μ-loop
-add-sum c =
-    let A = c .before .before .before .before .before .args in
-    let L = c .before .before .before .before .loop in
-    let w = sum-step 255 (L .i) (L .sum) (c .wide .result) (λ i. rowAt (A .table .now) i (A .j)) (L .inv .1) (L .inv .2) (c .wide .ensures .0 ∙ c .before .of-byte .ensures .0) (omega (arith, c .wide .ensures .0, c .before .of-byte .ensures .1)) in
-    omega (arith, w .1)
+add-sum c = omega (arith, more c .1)
 
 add-i : tie.Need-add-i Inv-loop μ-loop
 add-i c = search needs
@@ -47,17 +54,13 @@ loop-less : tie.Need-loop-less Inv-loop μ-loop
 loop-less c = search needs
 
 loop-again : tie.Need-loop-again Inv-loop μ-loop
-loop-again c =
-    let A = c .before .before .before .before .before .args in
-    let L = c .before .before .before .before .loop in
-    let w = sum-step 255 (L .i) (L .sum) (c .wide .result) (λ i. rowAt (A .table .now) i (A .j)) (L .inv .1) (L .inv .2) (c .wide .ensures .0 ∙ c .before .of-byte .ensures .0) (omega (arith, c .wide .ensures .0, c .before .of-byte .ensures .1)) in
-    (omega arith, w .0, w .1)
+loop-again c = (omega arith, more c .0, more c .1)
 
 returns : tie.Need-returns Inv-loop μ-loop
 returns c =
-    let L = c .before .loop in
-    let e : L .i ≡ c .before .before .args .classes = omega arith in
-    rw e at (L .inv .1)
+    let loop = c .before in
+    let e : loop .loop .i ≡ loop .before .args .classes = omega arith in
+    rw e at (loop .loop .inv .1)
 
 pub reserved-before-spec : {M : Type 1} → statement M
 reserved-before-spec =
