@@ -8,19 +8,28 @@ use native.Mathlib.Omega.{arith}
 use lib.Arith.{digits-div, digits-mod}
 use borrow.Author.Tests.{lt-ltb, le-ltb}
 use lib.Dec.{T, ltb}
-use lib.ListN.{length, getD, List·getD-eq-default}
+use lib.ListN.{length, getD, set, List·getD-eq-default}
 use Rattle.model.specs.Limits.{mostDoses, mostIntervals}
 use Rattle.model.specs.Sets.{on, Doses, Nonempty}
 use Rattle.model.proofs.Fractions.{compare≤}
 use Rattle.model.proofs.Sets.{Alike}
-use Rattle.measure.specs.Arrays.{setOf}
+use Rattle.steps.proofs.Loops.{stored}
 use Rattle.steps.proofs.Tests.{and-false}
-use Rattle.class_rounds.specs.Rounds.{NonePast}
+use Rattle.measure.specs.Arrays.{setOf}
+use Rattle.class_rounds.specs.Rounds.{RoomsTo, NonePast}
 
 -- a room by dose and interval, and by its place
 pub room-place : (active set : List Bool) (lens : List ℕ) (w k j : ℕ) → j < mostIntervals
-    → on (getD set k false) (on (getD active (k * mostIntervals + j) false) (getD lens j 0 * w)) ≡ on (getD set ((k * mostIntervals + j) / mostIntervals) false) (on (getD active (k * mostIntervals + j) false) (getD lens ((k * mostIntervals + j) % mostIntervals) 0 * w))
+    → on (getD set k false) (on (getD active (k * mostIntervals + j) false) (getD lens j 0 * w))
+    ≡ on (getD set ((k * mostIntervals + j) / mostIntervals) false) (on (getD active (k * mostIntervals + j) false) (getD lens ((k * mostIntervals + j) % mostIntervals) 0 * w))
 room-place active set lens w k j h = rw (digits-div k h, digits-mod k h)
+
+-- one room more, that of dose k in interval j
+pub rooms-next : (active members : List Bool) (lens rooms : List ℕ) (w k j : ℕ) {here room : ℕ} → j < mostIntervals → k * mostIntervals + j < length rooms
+    → RoomsTo active lens members w (k * mostIntervals + j) rooms → here ≡ on (getD active (k * mostIntervals + j) false) (getD lens j 0 * w) → room ≡ on (getD members k false) here
+    → RoomsTo active lens members w (k * mostIntervals + (j + 1)) (set rooms (k * mostIntervals + j) room)
+rooms-next active members lens rooms w k j h inside laid e q i l =
+    stored 0 _ rooms (k * mostIntervals + j) _ inside laid (q ∙ ap (on (getD members k false)) e ∙ room-place active members lens w k j h) i (omega arith)
 
 -- marks of both arrays, also past their ends
 pub marks-both : (n : ℕ) (dead set part : List Bool) → length set ≡ n → length part ≡ n

@@ -1,11 +1,11 @@
 -- `holds_of` meets its contract: every interval passed has its reserved time.
-use Prim.Native.Nat.{_≤_, _-_, _*_}
+use Prim.Native.Nat.{_-_, _*_}
 use mathlib.Core.Path.{refl}
 use lib.ListN.{getD}
 use native.Mathlib.Omega.{arith}
 use borrow.Author.Needs.{needs}
 use native.Mathlib.Nat.{mul-le-mul}
-use Rattle.model.specs.Limits.{mostWeight, mostIntervals, week}
+use Rattle.model.specs.Limits.{mostIntervals}
 use Rattle.steps.proofs.Loops.{DoneTo, done-none, done-next, done-all}
 use Rattle.class_rounds.proofs.holds_of.Statement.{statement}
 use Rattle.class_rounds.proofs.holds_of.Tie as tie
@@ -33,17 +33,15 @@ element-copy-out-holds c = search needs
 
 mul-holds-3 : tie.Need-mul-holds-3 Inv-loop μ-loop
 mul-holds-3 c =
-    let A = c .before .before .before .args in
-    let L = c .before .before .loop in
-    let t : getD (A .lens .now) (L .j) 0 * A .w ≤ week * mostWeight = mul-le-mul (c .before .before .before .pre .0 (L .j)) (c .before .before .before .pre .2) in
-    omega arith
+    let loop = c .before .before in
+    let asked = loop .before .pre in
+    omega (arith, mul-le-mul (asked .0 (loop .loop .j)) (asked .2))
 
 mul-holds-4 : tie.Need-mul-holds-4 Inv-loop μ-loop
 mul-holds-4 c =
-    let A = c .before .before .before .args in
-    let L = c .before .before .loop in
-    let t : getD (A .lens .now) (L .j) 0 * A .w ≤ week * mostWeight = mul-le-mul (c .before .before .before .pre .0 (L .j)) (c .before .before .before .pre .2) in
-    omega (arith, mul-le-mul (c .before .before .before .pre .1 (L .j)) t)
+    let loop = c .before .before in
+    let asked = loop .before .pre in
+    omega (arith, mul-le-mul (asked .1 (loop .loop .j)) (mul-le-mul (asked .0 (loop .loop .j)) (asked .2)))
 
 mul-holds-5 : tie.Need-mul-holds-5 Inv-loop μ-loop
 mul-holds-5 c = search needs

@@ -19,7 +19,10 @@ loop-holds : tie.Need-loop-holds Inv-loop μ-loop
 loop-holds c = (omega arith, c .pre .0, λ i h. absurd (omega arith))
 
 lay-row-requires : tie.Need-lay-row-requires Inv-loop μ-loop
-lay-row-requires c κs = (c .before .before .loop .inv .1, c .before .before .before .pre .1, c .before .before .before .pre .2, c .before .loop-test .taken, c .before .before .loop .inv .2)
+lay-row-requires c κs =
+    let loop = c .before .before in
+    let asked = loop .before .pre in
+    (loop .loop .inv .1, asked .1, asked .2, c .before .loop-test .taken, loop .loop .inv .2)
 
 add-k : tie.Need-add-k Inv-loop μ-loop
 add-k c = search needs

@@ -1,16 +1,13 @@
 -- `lay_row` meets its contract: every place passed has its room.
-use Prim.Native.Nat.{_≤_, _-_, _+_, _*_, _/_, _%_}
-use mathlib.Core.Path.{_≡_, ap, _∙_}
-use mathlib.Core.Bool.{false}
-use lib.ListN.{length, getD, length-set}
+use Prim.Native.Nat.{_≤_, _-_, _+_, _*_}
+use mathlib.Core.Path.{_≡_}
+use lib.ListN.{length, length-set}
 use native.Mathlib.Nat.{mul-le-mul}
 use native.Mathlib.Omega.{arith}
 use borrow.Author.Needs.{needs}
-use Rattle.model.specs.Limits.{cells, mostWeight, mostIntervals, week}
-use Rattle.model.specs.Sets.{on}
+use Rattle.model.specs.Limits.{cells, mostIntervals}
 use Rattle.class_rounds.specs.Rounds.{RoomsTo}
-use Rattle.steps.proofs.Loops.{stored}
-use Rattle.class_rounds.proofs.Laws.{room-place}
+use Rattle.class_rounds.proofs.Laws.{rooms-next}
 use Rattle.class_rounds.proofs.lay_row.Statement.{statement}
 use Rattle.class_rounds.proofs.lay_row.Tie as tie
 
@@ -43,8 +40,10 @@ element-copy-out-on-2 c = search needs
 
 mul-on-2 : tie.Need-mul-on-2 Inv-loop μ-loop
 mul-on-2 c =
-    let t : getD (c .before .before .before .before .args .lens .now) (c .before .before .before .loop .j) 0 * c .before .before .before .before .args .w ≤ week * mostWeight = mul-le-mul (c .before .before .before .before .pre .1 (c .before .before .before .loop .j)) (c .before .before .before .before .pre .2) in
-    omega (arith, c .before .before .before .before .pre .1 (c .before .before .before .loop .j))
+    let loop = c .before .before .before in
+    let asked = loop .before .pre in
+    let short = asked .1 (loop .loop .j) in
+    omega (arith, short, mul-le-mul short (asked .2))
 
 on-requires : tie.Need-on-requires Inv-loop μ-loop
 on-requires c κs = search needs
@@ -66,9 +65,13 @@ loop-less c = search needs
 
 loop-again : tie.Need-loop-again Inv-loop μ-loop
 loop-again c =
-    let A = c .before .before .before .before .before .before .args in
-    let L = c .before .before .before .before .before .loop in
-    (omega arith, simp length-set (L .inv .1), λ i h. stored 0 (λ i. on (getD (A .t4) (i / mostIntervals) false) (on (getD (A .active .now) i false) (getD (A .lens .now) (i % mostIntervals) 0 * A .w))) (L .rooms) (A .k * mostIntervals + L .j) _ (omega arith) (L .inv .2) (c .on2 .ensures .0 ∙ ap (on (getD (A .t4) (A .k) false)) (c .before .on .ensures .0) ∙ room-place (A .active .now) (A .t4) (A .lens .now) (A .w) (A .k) (L .j) (c .before .before .before .before .loop-test .taken)) i (omega arith))
+    let test = c .before .before .before .before in
+    let loop = test .before .loop in
+    let A = test .before .before .args in (
+      omega arith,
+      simp length-set (loop .inv .1),
+      rooms-next (A .active .now) (A .t4) (A .lens .now) (loop .rooms) (A .w) (A .k) (loop .j) (test .loop-test .taken) (omega arith) (loop .inv .2) (c .before .on .ensures .0) (c .on2 .ensures .0),
+    )
 
 returns : tie.Need-returns Inv-loop μ-loop
 returns c = (c .before .loop .inv .1, λ i h. c .before .loop .inv .2 i (omega arith))

@@ -20,22 +20,26 @@ fan-time-requires c κs = (c .before .before .before .pre .1 .few-intervals, c .
 -- W fits
 lay-rooms-requires : tie.Need-lay-rooms-requires
 lay-rooms-requires c κs =
-    let start = c .before .before .before .before .before in
-    let arrays = start .pre .1 in
-    (search needs, arrays .short, omega (arith, c .before .before .before .weight-of .ensures, W-most arrays (setOf (start .args .set))))
+    let weighed = c .before .before .before in
+    let entry = weighed .before .before in
+    let arrays = entry .pre .1 in
+    (search needs, arrays .short, omega (arith, weighed .weight-of .ensures, W-most arrays (setOf (entry .args .set))))
 
 holds-of-requires : tie.Need-holds-of-requires
 holds-of-requires c κs =
-    let start = c .before .before .before .before .before .before in
-    let arrays = start .pre .1 in
-    (arrays .short, c .before .before .before .open-fans .ensures .small, omega (arith, c .before .before .before .before .weight-of .ensures, W-most arrays (setOf (start .args .set))))
+    let opened = c .before .before .before in
+    let weighed = opened .before in
+    let entry = weighed .before .before in
+    let arrays = entry .pre .1 in
+    (arrays .short, opened .open-fans .ensures .small, omega (arith, weighed .weight-of .ensures, W-most arrays (setOf (entry .args .set))))
 
 -- and P
 needs-of-requires : tie.Need-needs-of-requires
 needs-of-requires c κs =
-    let arrays = c .before .before .before .before .before .before .before .pre .1 in
-    let opened = c .before .before .before .before .open-fans in
-    omega (arith, c .before .before .before .fan-time .ensures, time-most arrays (opened .result) (opened .ensures .small))
+    let timed = c .before .before .before in
+    let opened = timed .before in
+    let arrays = opened .before .before .before .pre .1 in
+    omega (arith, timed .fan-time .ensures, time-most arrays (opened .open-fans .result) (opened .open-fans .ensures .small))
 
 slice-aggregate-find-shares : tie.Need-slice-aggregate-find-shares
 slice-aggregate-find-shares c = search needs
@@ -64,20 +68,25 @@ same-length c = search needs
 -- W, P and open fans are worked out by the windows, and so they are those of the table
 returns : tie.Need-returns
 returns c =
-    let start = c .before .before .before .before .before .before .before .before .before .before .before .before .before .before .before .before .before .before .before in
-    let A = start .args in
-    let arrays = start .pre .1 in
-    let weighed = c .before .before .before .before .before .before .before .before .before .before .before .before .before .before .before .before .before .weight-of in
-    let opened = c .before .before .before .before .before .before .before .before .before .before .before .before .before .before .before .before .open-fans in
-    let timed = c .before .before .before .before .before .before .before .before .before .before .before .before .before .before .before .fan-time in
-    let roomy = c .before .before .before .before .before .before .before .before .before .before .before .before .before .lay-rooms .ensures .1 in
-    let held = c .before .before .before .before .before .before .before .before .before .before .before .before .holds-of .ensures in
-    let needed = c .before .before .before .before .before .before .before .before .before .before .before .needs-of .ensures in
-    let raised = c .before .before .before .before .before .before .find-shares .ensures in
-    let by-windows = measured (A .doses) (A .intervals) (A .release .now) (A .deadline .now) (A .grams .now) (A .instants .now) (setOf (A .set)) (A .set) (λ k l. refl) (rowOf (A .free)) (A .free) (λ j l. refl)
-    (opened .result) (weighed .result) (timed .result) (opened .ensures) (weighed .ensures) (timed .ensures) in
-    let known = measured-same _ _ (arrays .same) by-windows in
-    (known, opened .ensures .small, tried _ _ _ _ _ _ _ _ (A .free) (A .set) arrays (opened .result) _ _ known _ _ _ roomy held needed _ _ (c .dead-part .result) _ raised (c .before .needs-met .ensures) (c .dead-part .ensures))
+    let raised = c .before .before .before .before .before .before in
+    let needed = raised .before .before .before .before .before in
+    let held = needed .before in
+    let roomy = held .before in
+    let timed = roomy .before .before in
+    let opened = timed .before in
+    let weighed = opened .before in
+    let entry = weighed .before .before in
+    let A = entry .args in
+    let arrays = entry .pre .1 in
+    let by-windows =
+    measured (A .doses) (A .intervals) (A .release .now) (A .deadline .now) (A .grams .now) (A .instants .now) (setOf (A .set)) (A .set) (λ k l. refl) (rowOf (A .free)) (A .free) (λ j l. refl)
+    (opened .open-fans .result) (weighed .weight-of .result) (timed .fan-time .result) (opened .open-fans .ensures) (weighed .weight-of .ensures) (timed .fan-time .ensures) in
+    let known = measured-same _ _ (arrays .same) by-windows in (
+      known,
+      opened .open-fans .ensures .small,
+      tried _ _ _ _ _ _ _ _ (A .free) (A .set) arrays (opened .open-fans .result) _ _ known _ _ _ (roomy .lay-rooms .ensures .1) (held .holds-of .ensures) (needed .needs-of .ensures) _ _
+          (c .dead-part .result) _ (raised .find-shares .ensures) (c .before .needs-met .ensures) (c .dead-part .ensures),
+    )
 
 pub try-candidate-spec : {M : Type 1} → statement M
 try-candidate-spec =
