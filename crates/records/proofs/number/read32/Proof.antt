@@ -57,7 +57,7 @@ add-result-3 : tie.Need-add-result-3
 add-result-3 c = search needs
 
 returns : tie.Need-returns
-returns c = omega (arith, number4 (c .before .before .before .before .before .before .before .before .before .args .s .now) (c .before .before .before .before .before .before .before .before .before .args .at))
+returns c = let A = c .before .before .before .before .before .before .before .before .before .args in omega (arith, number4 (A .s .now) (A .at))
 
 pub read32-spec : {M : Type 1} → statement M
 read32-spec =

@@ -44,7 +44,16 @@ same-length c = search needs
 
 returns : tie.Need-returns
 unfolding numberBytes recordBytes
-returns c = join _ _ _ _ (join _ _ _ _ (join _ _ _ _ (join _ _ _ _ (join _ _ _ _ (c .before .before .before .before .before .before .before .before .before .before .before .before .before .before .before .before .before .before .before .before .before .before .put8 .ensures) (c .before .before .before .before .before .before .before .before .before .before .before .before .before .before .before .before .before .before .put-blank .ensures) refl) (c .before .before .before .before .before .before .before .before .before .before .before .before .before .before .put16 .ensures) refl) (c .before .before .before .before .before .before .before .before .before .before .put-pair .ensures) refl) (c .before .before .before .before .before .before .put32 .ensures) refl) (c .before .before .put-blank2 .ensures) refl
+returns c =
+    let zeros = c .before .before in
+    let grams = zeros .before .before .before .before in
+    let window = grams .before .before .before .before in
+    let bay = window .before .before .before .before in
+    let zero = bay .before .before .before .before in
+    let kind = zero .before .before .before .before in
+    let head = join _ _ _ _ (join _ _ _ _ (kind .put8 .ensures) (zero .put-blank .ensures) refl) (bay .put16 .ensures) refl in
+    let named = join _ _ _ _ (join _ _ _ _ head (window .put-pair .ensures) refl) (grams .put32 .ensures) refl in
+    join _ _ _ _ named (zeros .put-blank2 .ensures) refl
 
 pub put-dose-spec : {M : Type 1} → statement M
 put-dose-spec =

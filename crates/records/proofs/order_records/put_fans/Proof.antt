@@ -38,7 +38,14 @@ same-length c = search needs
 
 returns : tie.Need-returns
 unfolding numberBytes recordBytes
-returns c = join _ _ _ _ (join _ _ _ _ (join _ _ _ _ (join _ _ _ _ (c .before .before .before .before .before .before .before .before .before .before .before .before .before .before .before .before .before .before .put8 .ensures) (c .before .before .before .before .before .before .before .before .before .before .before .before .before .before .put82 .ensures) refl) (c .before .before .before .before .before .before .before .before .before .before .put-blank .ensures) refl) (c .before .before .before .before .before .before .put-pair .ensures) refl) (c .before .before .put-blank2 .ensures) refl
+returns c =
+    let zeros = c .before .before in
+    let rate = zeros .before .before .before .before in
+    let gap = rate .before .before .before .before in
+    let fans = gap .before .before .before .before in
+    let kind = fans .before .before .before .before in
+    let head = join _ _ _ _ (join _ _ _ _ (kind .put8 .ensures) (fans .put82 .ensures) refl) (gap .put-blank .ensures) refl in
+    join _ _ _ _ (join _ _ _ _ head (rate .put-pair .ensures) refl) (zeros .put-blank2 .ensures) refl
 
 pub put-fans-spec : {M : Type 1} → statement M
 put-fans-spec =

@@ -1,10 +1,7 @@
 -- `class_at` meets its contract: the part of the bytes that is lent is record i.
-use mathlib.Core.Path.{_∙_, ap}
-use mathlib.Core.List.{List}
-use Prim.Native.Nat.{ℕ}
 use Rattle.model.specs.Plans.{classOf}
 use Rattle.records.specs.Plan.{classIn}
-use Rattle.records.proofs.Records.{record-part, part-length}
+use Rattle.records.proofs.Records.{read-part, part-length}
 use native.Mathlib.Omega.{arith}
 use borrow.Author.Needs.{needs}
 use Rattle.records.proofs.plan.class_at.Statement.{statement}
@@ -26,11 +23,11 @@ part-class-in-end : tie.Need-part-class-in-end
 part-class-in-end c = search needs
 
 class-in-requires : tie.Need-class-in-requires
-class-in-requires c κs = part-length (c .before .before .args .plan .now) (c .before .before .args .i) (omega arith)
+class-in-requires c κs = let A = c .before .before .args in part-length (A .plan .now) (A .i) (omega arith)
 
 returns : tie.Need-returns
 unfolding classIn
-returns c = c .class-in .ensures ∙ ap (λ (r : List ℕ). classOf r) (record-part (c .before .before .before .args .plan .now) (c .before .before .before .args .i))
+returns c = let A = c .before .before .before .args in read-part classOf (A .plan .now) (A .i) (c .class-in .ensures)
 
 pub class-at-spec : {M : Type 1} → statement M
 class-at-spec =

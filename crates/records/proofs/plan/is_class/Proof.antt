@@ -1,6 +1,7 @@
 -- `is_class` meets its contract: the kind of record i, and the zeros of the part of the bytes that is lent.
+use Rattle.model.specs.Records.{classKind, classParts}
 use Rattle.records.specs.Plan.{isClass}
-use Rattle.records.proofs.Records.{record-part}
+use Rattle.records.proofs.Records.{of-kind}
 use borrow.Author.Needs.{needs}
 use Rattle.records.proofs.plan.is_class.Statement.{statement}
 use Rattle.records.proofs.plan.is_class.Tie as tie
@@ -31,7 +32,9 @@ both-requires c κs = search needs
 
 returns : tie.Need-returns
 unfolding isClass
-returns c = rw (c .both .ensures, c .before .before .before .kind-at .ensures, c .before .class-blank .ensures, record-part (c .before .before .before .before .before .args .plan .now) (c .before .before .before .before .before .args .i))
+returns c =
+    let A = c .before .before .before .before .before .args in
+    of-kind classParts classKind (A .plan .now) (A .i) (c .both .ensures) (c .before .before .before .kind-at .ensures) (c .before .class-blank .ensures)
 
 pub is-class-spec : {M : Type 1} → statement M
 is-class-spec =

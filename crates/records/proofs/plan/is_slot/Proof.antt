@@ -1,6 +1,7 @@
 -- `is_slot` meets its contract: the kind of record i, and the zeros of the part of the bytes that is lent.
+use Rattle.model.specs.Records.{slotKind, slotParts}
 use Rattle.records.specs.Plan.{isSlot}
-use Rattle.records.proofs.Records.{record-part}
+use Rattle.records.proofs.Records.{of-kind}
 use borrow.Author.Needs.{needs}
 use Rattle.records.proofs.plan.is_slot.Statement.{statement}
 use Rattle.records.proofs.plan.is_slot.Tie as tie
@@ -31,7 +32,9 @@ both-requires c κs = search needs
 
 returns : tie.Need-returns
 unfolding isSlot
-returns c = rw (c .both .ensures, c .before .before .before .kind-at .ensures, c .before .slot-blank .ensures, record-part (c .before .before .before .before .before .args .plan .now) (c .before .before .before .before .before .args .i))
+returns c =
+    let A = c .before .before .before .before .before .args in
+    of-kind slotParts slotKind (A .plan .now) (A .i) (c .both .ensures) (c .before .before .before .kind-at .ensures) (c .before .slot-blank .ensures)
 
 pub is-slot-spec : {M : Type 1} → statement M
 is-slot-spec =

@@ -1,9 +1,6 @@
 -- `kind_at` meets its contract: the part of the bytes that is lent is record i.
-use mathlib.Core.Path.{_∙_, ap}
-use mathlib.Core.List.{List}
-use Prim.Native.Nat.{ℕ}
 use lib.ListN.{getD}
-use Rattle.records.proofs.Records.{record-part}
+use Rattle.records.proofs.Records.{read-part}
 use borrow.Author.Needs.{needs}
 use Rattle.records.proofs.plan.kind_at.Statement.{statement}
 use Rattle.records.proofs.plan.kind_at.Tie as tie
@@ -27,7 +24,7 @@ kind-of-requires : tie.Need-kind-of-requires
 kind-of-requires c κs = search needs
 
 returns : tie.Need-returns
-returns c = c .kind-of .ensures ∙ ap (λ (r : List ℕ). getD r 0 0) (record-part (c .before .before .before .args .plan .now) (c .before .before .before .args .i))
+returns c = let A = c .before .before .before .args in read-part (λ r. getD r 0 0) (A .plan .now) (A .i) (c .kind-of .ensures)
 
 pub kind-at-spec : {M : Type 1} → statement M
 kind-at-spec =

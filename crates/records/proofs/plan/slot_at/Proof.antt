@@ -1,10 +1,7 @@
 -- `slot_at` meets its contract: the part of the bytes that is lent is record i.
-use mathlib.Core.Path.{_∙_, ap}
-use mathlib.Core.List.{List}
-use Prim.Native.Nat.{ℕ}
 use Rattle.model.specs.Plans.{slotOf}
 use Rattle.records.specs.Plan.{slotIn}
-use Rattle.records.proofs.Records.{record-part, part-length}
+use Rattle.records.proofs.Records.{read-part, part-length}
 use native.Mathlib.Omega.{arith}
 use borrow.Author.Needs.{needs}
 use Rattle.records.proofs.plan.slot_at.Statement.{statement}
@@ -26,11 +23,11 @@ part-slot-in-end : tie.Need-part-slot-in-end
 part-slot-in-end c = search needs
 
 slot-in-requires : tie.Need-slot-in-requires
-slot-in-requires c κs = part-length (c .before .before .args .plan .now) (c .before .before .args .i) (omega arith)
+slot-in-requires c κs = let A = c .before .before .args in part-length (A .plan .now) (A .i) (omega arith)
 
 returns : tie.Need-returns
 unfolding slotIn
-returns c = c .slot-in .ensures ∙ ap (λ (r : List ℕ). slotOf r) (record-part (c .before .before .before .args .plan .now) (c .before .before .before .args .i))
+returns c = let A = c .before .before .before .args in read-part slotOf (A .plan .now) (A .i) (c .slot-in .ensures)
 
 pub slot-at-spec : {M : Type 1} → statement M
 slot-at-spec =

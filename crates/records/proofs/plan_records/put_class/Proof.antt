@@ -27,7 +27,11 @@ same-length c = search needs
 
 returns : tie.Need-returns
 unfolding numberBytes recordBytes planRecordBytes
-returns c = join _ _ _ _ (join _ _ _ _ (c .before .before .before .before .before .before .before .before .before .before .put-head .ensures) (c .before .before .before .before .before .before .put-pair .ensures) refl) (c .before .before .put-blank .ensures) refl
+returns c =
+    let zeros = c .before .before in
+    let amounts = zeros .before .before .before .before in
+    let head = amounts .before .before .before .before in
+    join _ _ _ _ (join _ _ _ _ (head .put-head .ensures) (amounts .put-pair .ensures) refl) (zeros .put-blank .ensures) refl
 
 pub put-class-spec : {M : Type 1} → statement M
 put-class-spec =

@@ -26,7 +26,11 @@ same-length c = search needs
 
 returns : tie.Need-returns
 unfolding numberBytes
-returns c = join _ _ _ _ (join _ _ _ _ (c .before .before .before .before .before .before .before .before .before .before .put8 .ensures) (c .before .before .before .before .before .before .put82 .ensures) refl) (c .before .before .put16 .ensures) refl
+returns c =
+    let second = c .before .before in
+    let first = second .before .before .before .before in
+    let kind = first .before .before .before .before in
+    join _ _ _ _ (join _ _ _ _ (kind .put8 .ensures) (first .put82 .ensures) refl) (second .put16 .ensures) refl
 
 pub put-head-spec : {M : Type 1} → statement M
 put-head-spec =

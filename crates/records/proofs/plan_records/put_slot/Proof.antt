@@ -45,7 +45,16 @@ same-length c = search needs
 
 returns : tie.Need-returns
 unfolding numberBytes recordBytes planRecordBytes
-returns c = join _ _ _ _ (join _ _ _ _ (join _ _ _ _ (join _ _ _ _ (join _ _ _ _ (c .before .before .before .before .before .before .before .before .before .before .before .before .before .before .before .before .before .before .before .before .before .before .put-head .ensures) (c .before .before .before .before .before .before .before .before .before .before .before .before .before .before .before .before .before .before .put-pair .ensures) refl) (c .before .before .before .before .before .before .before .before .before .before .before .before .before .before .put-pair2 .ensures) refl) (c .before .before .before .before .before .before .before .before .before .before .put-pair3 .ensures) refl) (c .before .before .before .before .before .before .put8 .ensures) refl) (c .before .before .put-blank .ensures) refl
+returns c =
+    let zeros = c .before .before in
+    let class = zeros .before .before .before .before in
+    let amounts = class .before .before .before .before in
+    let end = amounts .before .before .before .before in
+    let start = end .before .before .before .before in
+    let head = start .before .before .before .before in
+    let window = join _ _ _ _ (join _ _ _ _ (head .put-head .ensures) (start .put-pair .ensures) refl) (end .put-pair2 .ensures) refl in
+    let named = join _ _ _ _ (join _ _ _ _ window (amounts .put-pair3 .ensures) refl) (class .put8 .ensures) refl in
+    join _ _ _ _ named (zeros .put-blank .ensures) refl
 
 pub put-slot-spec : {M : Type 1} → statement M
 put-slot-spec =
