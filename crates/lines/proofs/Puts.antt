@@ -79,6 +79,11 @@ numbers-length [] = omega arith
 numbers-length (v ∷ vs) =
     omega (arith, length-append (numberText v) (numbersText vs), decimal-length 20 v, numbers-length vs)
 
+-- behind a word and its numbers there is room for the newline
+pub newline-room : {word b b′ b″ : List ℕ} {at behind e : ℕ} (vs : List ℕ) → Put word b at b′ behind → Put (numbersText vs) b′ behind b″ e
+    → at + length word + 21 * length vs + 1 ≤ length b → e < length b″
+newline-room vs p q h = omega (arith, p .next, q .next, put-length p, put-length q, numbers-length vs)
+
 module _ (vs b₀ : List ℕ) (at : ℕ) where
   pub numbers-none : Put (numbersText (take 0 vs)) b₀ at b₀ at
   unfolding numbersText

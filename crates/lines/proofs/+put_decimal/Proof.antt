@@ -96,13 +96,19 @@ put-decimal-slice-write-b-2 : (t : ℕ) → put-decimal-lts.Need-slice-write-b-2
   put-decimal-below t,
   put-decimal.Post,
 ) (put-decimal-at t) put-decimal.Post
-put-decimal-slice-write-b-2 t c = let A = c .before .before .before .before .before .before .before .args in omega (arith, c .before .before .put-decimal .ensures .next, decimal-length (A .places - 1) (A .v / 10))
+put-decimal-slice-write-b-2 t c =
+    let put = c .before .before in
+    let A = put .before .before .before .before .before .args in
+    omega (arith, put .put-decimal .ensures .next, decimal-length (A .places - 1) (A .v / 10))
 
 put-decimal-add-result-2 : (t : ℕ) → put-decimal-lts.Need-add-result-2 (
   put-decimal-below t,
   put-decimal.Post,
 ) (put-decimal-at t) put-decimal.Post
-put-decimal-add-result-2 t c = let A = c .before .before .before .before .before .before .before .args in omega (arith, c .before .before .put-decimal .ensures .next, decimal-length (A .places - 1) (A .v / 10))
+put-decimal-add-result-2 t c =
+    let put = c .before .before in
+    let A = put .before .before .before .before .before .args in
+    omega (arith, put .put-decimal .ensures .next, decimal-length (A .places - 1) (A .v / 10))
 
 put-decimal-same-length-2 : (t : ℕ) → put-decimal-lts.Need-same-length-2 (
   put-decimal-below t,
@@ -114,7 +120,10 @@ put-decimal-returns-3 : (t : ℕ) → put-decimal-lts.Need-returns-3 (
   put-decimal-below t,
   put-decimal.Post,
 ) (put-decimal-at t) put-decimal.Post
-put-decimal-returns-3 t c = put-last _ _ _ _ _ _ (c .before .before .before .before .before .if1 .left) (c .before .before .before .before .if2 .left) (c .before .before .put-decimal .ensures)
+put-decimal-returns-3 t c =
+    let put = c .before .before in
+    let test = put .before .before in
+    put-last _ _ _ _ _ _ (test .before .if1 .left) (test .if2 .left) (put .put-decimal .ensures)
 
 pub +put-decimal-spec : {M : Type 1} → statement M
 +put-decimal-spec = close μ-put-decimal λ t. put-decimal-lts.spec (

@@ -14,14 +14,20 @@ put-records-requires : tie.Need-put-records-requires
 put-records-requires c κs = search needs
 
 put-total-requires : tie.Need-put-total-requires
-put-total-requires c κs = omega (arith, records-end (c .before .before .before .before .before .before .before .args .plan .now) _ _ (c .before .before .before .put-records .ensures), put-length (c .before .before .before .put-records .ensures))
+put-total-requires c κs =
+    let put = c .before .before .before in
+    let A = put .before .before .before .before .args in
+    omega (arith, records-end (A .plan .now) _ _ (put .put-records .ensures), put-length (put .put-records .ensures))
 
 same-length : tie.Need-same-length
 same-length c = search needs
 
 returns : tie.Need-returns
 unfolding planText
-returns c = put-more (c .before .before .before .before .before .before .put-records .ensures) (c .before .before .put-total .ensures)
+returns c =
+    let total = c .before .before in
+    let put = total .before .before .before .before in
+    put-more (put .put-records .ensures) (total .put-total .ensures)
 
 pub print-plan-spec : {M : Type 1} → statement M
 print-plan-spec =

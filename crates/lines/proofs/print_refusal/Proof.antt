@@ -17,7 +17,9 @@ same-length : tie.Need-same-length
 same-length c = search needs
 
 returns : tie.Need-returns
-returns c = put-nine _ _ _ _ _ (c .before .before .before .before .before .before .if1 .taken) (c .before .before .put-line .ensures)
+returns c =
+    let put = c .before .before in
+    put-nine _ _ _ _ _ (put .before .before .before .before .if1 .taken) (put .put-line .ensures)
 
 slice-aggregate-put-line-3 : tie.Need-slice-aggregate-put-line-3
 slice-aggregate-put-line-3 c = search needs
@@ -32,7 +34,9 @@ same-length-2 : tie.Need-same-length-2
 same-length-2 c = search needs
 
 returns-2 : tie.Need-returns-2
-returns-2 c = put-other _ _ _ _ _ (c .before .before .before .before .before .before .if1 .left) (c .before .before .put-line2 .ensures)
+returns-2 c =
+    let put = c .before .before in
+    put-other _ _ _ _ _ (put .before .before .before .before .if1 .left) (put .put-line2 .ensures)
 
 pub print-refusal-spec : {M : Type 1} → statement M
 print-refusal-spec =

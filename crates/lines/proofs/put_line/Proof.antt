@@ -2,7 +2,7 @@
 use native.Mathlib.Omega.{arith}
 use lib.ListN.{length-set}
 use mathlib.Core.Path.{_∙_}
-use Rattle.lines.proofs.Puts.{put-one, put-more, put-length, numbers-length}
+use Rattle.lines.proofs.Puts.{put-one, put-more, put-length, newline-room}
 use borrow.Author.Needs.{needs}
 use Rattle.lines.proofs.put_line.Statement.{statement}
 use Rattle.lines.proofs.put_line.Tie as tie
@@ -11,19 +11,33 @@ put-word-requires : tie.Need-put-word-requires
 put-word-requires c κs = search needs
 
 put-numbers-requires : tie.Need-put-numbers-requires
-put-numbers-requires c κs = omega (arith, c .before .before .before .put-word .ensures .next, put-length (c .before .before .before .put-word .ensures))
+put-numbers-requires c κs =
+    let word = c .before .before .before .put-word in
+    omega (arith, word .ensures .next, put-length (word .ensures))
 
 slice-write-b : tie.Need-slice-write-b
-slice-write-b c = omega (arith, c .before .before .before .before .before .before .put-word .ensures .next, c .before .before .put-numbers .ensures .next, put-length (c .before .before .before .before .before .before .put-word .ensures), put-length (c .before .before .put-numbers .ensures), numbers-length (c .before .before .before .before .before .before .before .before .before .before .before .args .numbers .now))
+slice-write-b c =
+    let numbers = c .before .before in
+    let word = numbers .before .before .before .before in
+    newline-room _ (word .put-word .ensures) (numbers .put-numbers .ensures) (word .before .before .before .before .before .pre)
 
 add-result : tie.Need-add-result
-add-result c = omega (arith, c .before .before .before .before .before .before .put-word .ensures .next, c .before .before .put-numbers .ensures .next, put-length (c .before .before .before .before .before .before .put-word .ensures), put-length (c .before .before .put-numbers .ensures), numbers-length (c .before .before .before .before .before .before .before .before .before .before .before .args .numbers .now))
+add-result c =
+    let numbers = c .before .before in
+    let word = numbers .before .before .before .before in
+    omega (arith, newline-room _ (word .put-word .ensures) (numbers .put-numbers .ensures) (word .before .before .before .before .before .pre))
 
 same-length : tie.Need-same-length
-same-length c = simp length-set (put-length (c .before .before .put-numbers .ensures) ∙ put-length (c .before .before .before .before .before .before .put-word .ensures))
+same-length c =
+    let numbers = c .before .before in
+    let word = numbers .before .before .before .before in
+    simp length-set (put-length (numbers .put-numbers .ensures) ∙ put-length (word .put-word .ensures))
 
 returns : tie.Need-returns
-returns c = put-more (c .before .before .before .before .before .before .put-word .ensures) (put-more (c .before .before .put-numbers .ensures) (put-one _ _ _))
+returns c =
+    let numbers = c .before .before in
+    let word = numbers .before .before .before .before in
+    put-more (word .put-word .ensures) (put-more (numbers .put-numbers .ensures) (put-one _ _ _))
 
 pub put-line-spec : {M : Type 1} → statement M
 put-line-spec =

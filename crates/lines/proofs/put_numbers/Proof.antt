@@ -25,7 +25,10 @@ shared-slice-read-put-number : tie.Need-shared-slice-read-put-number Inv-loop μ
 shared-slice-read-put-number c = search needs
 
 put-number-requires : tie.Need-put-number-requires Inv-loop μ-loop
-put-number-requires c κs = omega (arith, numbers-room (c .before .before .before .before .before .before .args .numbers .now) _ _ _ (c .before .before .before .loop .inv .0) (c .before .before .before .loop .inv .2))
+put-number-requires c κs =
+    let loop = c .before .before .before in
+    let A = loop .before .before .before .args in
+    omega (arith, numbers-room (A .numbers .now) _ _ _ (loop .loop .inv .0) (loop .loop .inv .2))
 
 add-i : tie.Need-add-i Inv-loop μ-loop
 add-i c = search needs
@@ -34,13 +37,21 @@ loop-less : tie.Need-loop-less Inv-loop μ-loop
 loop-less c = search needs
 
 loop-again : tie.Need-loop-again Inv-loop μ-loop
-loop-again c = (omega arith, omega (arith, put-length (c .before .before .put-number .ensures)), numbers-more (c .before .before .before .before .before .before .before .before .before .args .numbers .now) _ _ _ (c .before .before .before .before .before .loop-test .taken) (c .before .before .before .before .before .before .loop .inv .2) (c .before .before .put-number .ensures))
+loop-again c =
+    let put = c .before .before in
+    let test = put .before .before .before in
+    let loop = test .before in
+    let A = loop .before .before .before .args in
+    (omega arith, omega (arith, put-length (put .put-number .ensures)), numbers-more (A .numbers .now) _ _ _ (test .loop-test .taken) (loop .loop .inv .2) (put .put-number .ensures))
 
 same-length : tie.Need-same-length Inv-loop μ-loop
 same-length c = search needs
 
 returns : tie.Need-returns Inv-loop μ-loop
-returns c = numbers-all (c .before .before .before .before .args .numbers .now) _ _ (c .before .loop .i) (omega arith) (c .before .loop .inv .2)
+returns c =
+    let loop = c .before in
+    let A = loop .before .before .before .args in
+    numbers-all (A .numbers .now) _ _ (loop .loop .i) (omega arith) (loop .loop .inv .2)
 
 pub put-numbers-spec : {M : Type 1} → statement M
 put-numbers-spec =

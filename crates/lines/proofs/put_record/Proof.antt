@@ -19,9 +19,12 @@ same-length c = search needs
 
 returns : tie.Need-returns
 returns c =
-    let K = c .before .before .before .before .before .before .kind-at in
-    let A = c .before .before .before .before .before .before .before .before .before .args in
-    put-of-class (A .plan .now) (A .i) (sym (K .ensures) ∙ c .before .before .before .before .before .if1 .taken) (c .before .before .before .class-at .ensures) (c .before .before .put-class-line .ensures)
+    let put = c .before .before in
+    let read = put .before in
+    let test = read .before .before in
+    let kind = test .before in
+    let A = kind .before .before .before .args in
+    put-of-class (A .plan .now) (A .i) (sym (kind .kind-at .ensures) ∙ test .if1 .taken) (read .class-at .ensures) (put .put-class-line .ensures)
 
 slot-at-requires : tie.Need-slot-at-requires
 slot-at-requires c κs = search needs
@@ -34,9 +37,12 @@ same-length-2 c = search needs
 
 returns-2 : tie.Need-returns-2
 returns-2 c =
-    let K = c .before .before .before .before .before .before .kind-at in
-    let A = c .before .before .before .before .before .before .before .before .before .args in
-    put-of-slot (A .plan .now) (A .i) (λ e. c .before .before .before .before .before .if1 .left (K .ensures ∙ e)) (c .before .before .before .slot-at .ensures) (c .before .before .put-slot-line .ensures)
+    let put = c .before .before in
+    let read = put .before in
+    let test = read .before .before in
+    let kind = test .before in
+    let A = kind .before .before .before .args in
+    put-of-slot (A .plan .now) (A .i) (λ e. test .if1 .left (kind .kind-at .ensures ∙ e)) (read .slot-at .ensures) (put .put-slot-line .ensures)
 
 pub put-record-spec : {M : Type 1} → statement M
 put-record-spec =

@@ -22,7 +22,10 @@ loop-holds : tie.Need-loop-holds Inv-loop μ-loop
 loop-holds c = (omega arith, refl, records-none (c .before .before .args .plan .now) _)
 
 put-record-requires : tie.Need-put-record-requires Inv-loop μ-loop
-put-record-requires c κs = (omega arith, omega (arith, records-end (c .before .before .before .before .before .args .plan .now) _ _ (c .before .before .loop .inv .2)))
+put-record-requires c κs =
+    let loop = c .before .before in
+    let A = loop .before .before .before .args in
+    (omega arith, omega (arith, records-end (A .plan .now) _ _ (loop .loop .inv .2)))
 
 add-i : tie.Need-add-i Inv-loop μ-loop
 add-i c = search needs
@@ -31,13 +34,20 @@ loop-less : tie.Need-loop-less Inv-loop μ-loop
 loop-less c = search needs
 
 loop-again : tie.Need-loop-again Inv-loop μ-loop
-loop-again c = (omega arith, omega (arith, put-length (c .before .before .put-record .ensures)), records-more (c .before .before .before .before .before .before .before .before .args .plan .now) _ _ (c .before .before .before .before .before .loop .inv .2) (c .before .before .put-record .ensures))
+loop-again c =
+    let put = c .before .before in
+    let loop = put .before .before .before in
+    let A = loop .before .before .before .args in
+    (omega arith, omega (arith, put-length (put .put-record .ensures)), records-more (A .plan .now) _ _ (loop .loop .inv .2) (put .put-record .ensures))
 
 same-length : tie.Need-same-length Inv-loop μ-loop
 same-length c = search needs
 
 returns : tie.Need-returns Inv-loop μ-loop
-returns c = let e : c .before .loop .i ≡ c .before .before .before .before .args .n = omega arith in rw e at (c .before .loop .inv .2)
+returns c =
+    let loop = c .before in
+    let e : loop .loop .i ≡ loop .before .before .before .args .n = omega arith in
+    rw e at (loop .loop .inv .2)
 
 pub put-records-spec : {M : Type 1} → statement M
 put-records-spec =

@@ -34,7 +34,10 @@ loop-less : tie.Need-loop-less Inv-loop μ-loop
 loop-less c = search needs
 
 loop-again : tie.Need-loop-again Inv-loop μ-loop
-loop-again c = (omega arith, simp length-set (c .before .before .loop .inv .1), word-more (c .before .before .before .args .word .now) _ _ _ (c .before .loop-test .taken) (c .before .before .loop .inv .2))
+loop-again c =
+    let test = c .before in
+    let loop = test .before in
+    (omega arith, simp length-set (loop .loop .inv .1), word-more (loop .before .args .word .now) _ _ _ (test .loop-test .taken) (loop .loop .inv .2))
 
 add-result : tie.Need-add-result Inv-loop μ-loop
 add-result c = search needs
