@@ -23,8 +23,8 @@ use Rattle.order.proofs.Entry.{the-type}
 
 -- ---- a record of known kind: its fault, or its fields
 
-pub fault-of : {n : ℕ} {p q b f : Bool} → n ≡ faultOf p q → p ≡ b → q ≡ f → n ≡ faultOf b f
-fault-of {n} {p} {q} {b} {f} h e g = h ∙ rw (e, g)
+pub fault-of : {A : Type 0} (fits : A → Bool) {n : ℕ} {p q b : Bool} {x y : A} → n ≡ faultOf p q → p ≡ b → q ≡ fits x → x ≡ y → n ≡ faultOf b (fits y)
+fault-of fits h e g r = h ∙ rw (e, g, r)
 
 pub faulty : {n : ℕ} (b f : Bool) (e : orders.Entry) (k : ℕ) → n ≡ faultOf b f → (n ≡ 0 → ⊥)
     → is.Refused (record { number = n; place = k }) ≡ heldEntry (checked b f e k)

@@ -1,9 +1,10 @@
 -- The walk over the records. Assumes nothing.
-use Prim.Native.Nat.{ℕ, zero, suc, _+_, _-_, _%_, _<_, _≤_}
+use Prim.Native.Nat.{ℕ, zero, suc, _+_, _-_, _/_, _%_, _<_, _≤_}
 use mathlib.Core.Path.{_≡_, refl, sym, ap, _∙_}
 use mathlib.Core.Bool.{Bool, true, false, _&&_}
 use mathlib.Core.List.{List, [], _∷_, _++_}
 use native.Mathlib.Omega.{arith}
+use native.Mathlib.Nat.{sub-zero}
 use native.Mathlib.Numerals.{add-one}
 use borrow.Author.Tests.{leb-true, leb-false}
 use lib.Dec.{eqb, leb}
@@ -20,6 +21,7 @@ use Rattle.records.specs.declared.order_records.Dose.{Dose}
 use Rattle.order.specs.declared.Gathered.{Gathered}
 use Rattle.order.specs.declared.Walked.{Walked}
 use Rattle.records.specs.Held.{heldFans, heldDose}
+use Rattle.records.proofs.Records.{partAt, read-part}
 use Rattle.order.specs.Held.{heldEntry, heldOrder}
 use Rattle.order.specs.Gathered.{went, noRecords, withDose, withFans, withDoseAt, taken, takenOther, takenRefused, adding, walkedFrom}
 
@@ -100,7 +102,7 @@ with-few o d h =
     (λ e. let q : o .count < mostDoses = leb-false mostDoses (o .count) e in omega arith)
 
 -- a record adds at most one to each count
-pub counts : (s : Gathered) (k : ℕ) (e : Entry) → (taken s k e .gathered .heads ≤ s .heads + 1) × (taken s k e .gathered .doses ≤ s .doses + 1)
+counts : (s : Gathered) (k : ℕ) (e : Entry) → (taken s k e .gathered .heads ≤ s .heads + 1) × (taken s k e .gathered .doses ≤ s .doses + 1)
 unfolding taken takenOther takenRefused withFans withDoseAt noRecords
 counts s k (is.Fans f) = (omega arith, omega arith)
 counts s k (is.Dose d) = (omega arith, omega arith)
@@ -138,14 +140,14 @@ goes-at (read (doseEntry d)) (read l) s k n h = refl
 goes-at (read (doseEntry d)) (refused a b) s k n h = refl
 goes-at (refused a b) rest s k refuses h = absurd (let z : ⊥ = omega arith in z)
 
-pub stops : {w : Walked} (bytes : List ℕ) (k m : ℕ) (s : Gathered) → 0 < m → w ≡ taken s k (heldEntry (entryOf (recordAt bytes k) k))
+stops : {w : Walked} (bytes : List ℕ) (k m : ℕ) (s : Gathered) → 0 < m → w ≡ taken s k (heldEntry (entryOf (recordAt bytes k) k))
     → (w .number ≡ 0 → ⊥) → w ≡ walkedFrom (readFrom entryOf bytes k m) k s
 unfolding readFrom
 stops bytes k zero s h e f = absurd (let z : ⊥ = omega arith in z)
 stops bytes k (suc m) s h e f =
     e ∙ stops-at (entryOf (recordAt bytes k) k) (readFrom entryOf bytes (suc k) m) s k (λ z. f (ap (λ (u : Walked). u .number) e ∙ z))
 
-pub goes : {w : Walked} (bytes : List ℕ) (k m : ℕ) (s : Gathered) → 0 < m → w ≡ taken s k (heldEntry (entryOf (recordAt bytes k) k))
+goes : {w : Walked} (bytes : List ℕ) (k m : ℕ) (s : Gathered) → 0 < m → w ≡ taken s k (heldEntry (entryOf (recordAt bytes k) k))
     → w .number ≡ 0 → walkedFrom (readFrom entryOf bytes (k + 1) (m - 1)) (k + 1) (w .gathered) ≡ walkedFrom (readFrom entryOf bytes k m) k s
 unfolding readFrom
 goes bytes k zero s h e f = absurd (let z : ⊥ = omega arith in z)
@@ -154,10 +156,52 @@ goes {w} bytes k (suc m) s h e f =
     let g = goes-at (entryOf (recordAt bytes k) k) (readFrom entryOf bytes (suc k) m) s k (each-entry _ k) (ap (λ (u : Walked). u .number) (sym e) ∙ f) in
     rw (q, add-one k, e) g
 
-pub ends : (bytes : List ℕ) (k m : ℕ) (s : Gathered) → m ≡ 0 → went s ≡ walkedFrom (readFrom entryOf bytes k m) k s
+ends : (bytes : List ℕ) (k m : ℕ) (s : Gathered) → m ≡ 0 → went s ≡ walkedFrom (readFrom entryOf bytes k m) k s
 unfolding readFrom walkedFrom adding
 ends bytes k m s e = rw e
 
-pub empty : {s : Gathered} → s ≡ noRecords → (s .heads ≡ 0) × (s .doses ≡ 0)
+empty : {s : Gathered} → s ≡ noRecords → (s .heads ≡ 0) × (s .doses ≡ 0)
 unfolding noRecords
 empty e = rw e (refl, refl)
+
+-- ---- the walk so far
+
+-- the first k of n records are gathered in s; s and the records left come to what all come to
+pub record Walking (bytes : List ℕ) (n k : ℕ) (s : Gathered) : Type 0 where
+  pub within : k ≤ n
+  pub whole : n ≡ length bytes / 32
+  pub heads : s .heads ≤ k
+  pub doses : s .doses ≤ k
+  pub comes : walkedFrom (readFrom entryOf bytes k (n - k)) k s ≡ walkedFrom (readFrom entryOf bytes 0 n) 0 noRecords
+
+pub walking-none : {bytes : List ℕ} {n : ℕ} {s : Gathered} → n ≡ length bytes / 32 → s ≡ noRecords → Walking bytes n 0 s
+walking-none {n = n} e q =
+    let none = empty q in
+    record { within = omega arith; whole = e; heads = omega (arith, none .0); doses = omega (arith, none .1); comes = rw (sub-zero n, q) refl }
+
+module _ {bytes : List ℕ} {n k : ℕ} {s : Gathered} (so-far : Walking bytes n k s) where
+  -- every record is gathered
+  pub walking-ends : n ≤ k → went s ≡ walkedFrom (readFrom entryOf bytes 0 n) 0 noRecords
+  walking-ends h = ends bytes k (n - k) s (omega (arith, so-far .within)) ∙ so-far .comes
+
+  -- record k is the part lent
+  module _ {w : Walked} (h : k < n) (took : w ≡ taken s k (heldEntry (entryOf (partAt bytes k) k))) where
+    own : w ≡ taken s k (heldEntry (entryOf (recordAt bytes k) k))
+    own = read-part (λ r. taken s k (heldEntry (entryOf r k))) bytes k took
+
+    -- it refuses
+    pub walking-stops : (w .number ≡ 0 → ⊥) → w ≡ walkedFrom (readFrom entryOf bytes 0 n) 0 noRecords
+    walking-stops f = stops bytes k (n - k) s (omega arith) own f ∙ so-far .comes
+
+    -- it is gathered
+    pub walking-goes : w .number ≡ 0 → Walking bytes n (k + 1) (w .gathered)
+    walking-goes f =
+        let more = counts s k (heldEntry (entryOf (recordAt bytes k) k)) in
+        let left : n - (k + 1) ≡ n - k - 1 = omega arith in
+        record {
+          within = omega arith;
+          whole = so-far .whole;
+          heads = omega (arith, so-far .heads, ap (λ (u : Walked). u .gathered .heads) own, more .0);
+          doses = omega (arith, so-far .doses, ap (λ (u : Walked). u .gathered .doses) own, more .1);
+          comes = rw left (goes bytes k (n - k) s (omega arith) own f ∙ so-far .comes);
+        }

@@ -33,9 +33,11 @@ refuse-requires-3 c κs = search needs
 returns-3 : tie.Need-returns-3
 unfolding readOrder
 returns-3 c =
+    let walked = c .before .before .before in
+    let fits = walked .before in
     answers _ _
-    (at-on heldReading _ _ (and-on (sym (eq-eqb _ _ (c .before .before .before .before .before .if1 .left))) (sym (le-leb _ _ (c .before .before .before .before .if2 .left))))
-    (c .refuse3 .ensures ∙ walk-refused _ (c .before .before .before .walk .ensures) (c .before .if3 .taken)))
+    (at-on heldReading _ _ (and-on (sym (eq-eqb _ _ (fits .before .if1 .left))) (sym (le-leb _ _ (fits .if2 .left))))
+    (c .refuse3 .ensures ∙ walk-refused _ (walked .walk .ensures) (c .before .if3 .taken)))
 
 settle-requires : tie.Need-settle-requires
 settle-requires c κs = few-walked _ (c .before .before .before .walk .ensures)
@@ -43,9 +45,12 @@ settle-requires c κs = few-walked _ (c .before .before .before .walk .ensures)
 returns-4 : tie.Need-returns-4
 unfolding readOrder
 returns-4 c =
+    let test = c .before .before in
+    let walked = test .before .before in
+    let fits = walked .before in
     answers _ _
-    (at-on heldReading _ _ (and-on (sym (eq-eqb _ _ (c .before .before .before .before .before .before .if1 .left))) (sym (le-leb _ _ (c .before .before .before .before .before .if2 .left))))
-    (c .settle .ensures ∙ walk-settled _ (each-from _ 0 _) (c .before .before .before .before .walk .ensures) (c .before .before .if3 .left)))
+    (at-on heldReading _ _ (and-on (sym (eq-eqb _ _ (fits .before .if1 .left))) (sym (le-leb _ _ (fits .if2 .left))))
+    (c .settle .ensures ∙ walk-settled _ (each-from _ 0 _) (walked .walk .ensures) (test .if3 .left)))
 
 pub read-order-spec : {M : Type 1} → statement M
 read-order-spec =

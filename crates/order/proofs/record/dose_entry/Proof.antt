@@ -22,13 +22,19 @@ fault-requires : tie.Need-fault-requires
 fault-requires c κs = search needs
 
 returns : tie.Need-returns
-returns c = faulty _ _ _ _ (fault-of (c .before .fault .ensures) (c .before .before .before .dose-blank .ensures) (c .before .before .dose-fits .ensures ∙ ap (λ (x : Dose). doseFits x) (c .before .before .before .before .dose-in .ensures))) (c .if1 .taken)
+returns c =
+    let fault = c .before in
+    let blank = fault .before .before in
+    let found = fault-of doseFits (fault .fault .ensures) (blank .dose-blank .ensures) (fault .before .dose-fits .ensures) (blank .before .dose-in .ensures) in
+    faulty _ _ _ _ found (c .if1 .taken)
 
 returns-2 : tie.Need-returns-2
 unfolding heldEntry
 returns-2 c =
-    ap (λ (x : Dose). is.Dose (heldDose x)) (c .before .before .before .before .dose-in .ensures)
-    ∙ faultless _ _ _ _ (fault-of (c .before .fault .ensures) (c .before .before .before .dose-blank .ensures) (c .before .before .dose-fits .ensures ∙ ap (λ (x : Dose). doseFits x) (c .before .before .before .before .dose-in .ensures))) (c .if1 .left)
+    let fault = c .before in
+    let blank = fault .before .before in
+    let found = fault-of doseFits (fault .fault .ensures) (blank .dose-blank .ensures) (fault .before .dose-fits .ensures) (blank .before .dose-in .ensures) in
+    ap (λ (x : Dose). is.Dose (heldDose x)) (blank .before .dose-in .ensures) ∙ faultless _ _ _ _ found (c .if1 .left)
 
 pub dose-entry-spec : {M : Type 1} → statement M
 dose-entry-spec =

@@ -23,9 +23,11 @@ inside-requires-2 c κs = search needs
 
 returns-3 : tie.Need-returns-3
 returns-3 c =
+    let second = c .before .before .before in
+    let first = second .before .before in
     and-off _
     (and-on
-    (and-on (was-on (c .before .before .before .before .before .before .inside .ensures) (c .before .before .before .before .before .if1 .left)) (sym (le-leb _ _ (c .before .before .before .if2 .left))))
+    (and-on (was-on (first .before .inside .ensures) (first .if1 .left)) (sym (le-leb _ _ (second .if2 .left))))
     (was-off (c .before .inside2 .ensures) (c .if3 .taken)))
 
 inside-requires-3 : tie.Need-inside-requires-3
@@ -33,10 +35,13 @@ inside-requires-3 c κs = search needs
 
 returns-4 : tie.Need-returns-4
 returns-4 c =
+    let third = c .before in
+    let second = third .before .before .before in
+    let first = second .before .before in
     and-on
     (and-on
-    (and-on (was-on (c .before .before .before .before .before .before .before .inside .ensures) (c .before .before .before .before .before .before .if1 .left)) (sym (le-leb _ _ (c .before .before .before .before .if2 .left))))
-    (was-on (c .before .before .inside2 .ensures) (c .before .if3 .left)))
+    (and-on (was-on (first .before .inside .ensures) (first .if1 .left)) (sym (le-leb _ _ (second .if2 .left))))
+    (was-on (third .before .inside2 .ensures) (third .if3 .left)))
     (c .inside3 .ensures)
 
 pub dose-fits-spec : {M : Type 1} → statement M

@@ -22,13 +22,19 @@ fault-requires : tie.Need-fault-requires
 fault-requires c κs = search needs
 
 returns : tie.Need-returns
-returns c = faulty _ _ _ _ (fault-of (c .before .fault .ensures) (c .before .before .before .fans-blank .ensures) (c .before .before .fans-fit .ensures ∙ ap (λ (x : Fans). fansFit x) (c .before .before .before .before .fans-in .ensures))) (c .if1 .taken)
+returns c =
+    let fault = c .before in
+    let blank = fault .before .before in
+    let found = fault-of fansFit (fault .fault .ensures) (blank .fans-blank .ensures) (fault .before .fans-fit .ensures) (blank .before .fans-in .ensures) in
+    faulty _ _ _ _ found (c .if1 .taken)
 
 returns-2 : tie.Need-returns-2
 unfolding heldEntry
 returns-2 c =
-    ap (λ (x : Fans). is.Fans (heldFans x)) (c .before .before .before .before .fans-in .ensures)
-    ∙ faultless _ _ _ _ (fault-of (c .before .fault .ensures) (c .before .before .before .fans-blank .ensures) (c .before .before .fans-fit .ensures ∙ ap (λ (x : Fans). fansFit x) (c .before .before .before .before .fans-in .ensures))) (c .if1 .left)
+    let fault = c .before in
+    let blank = fault .before .before in
+    let found = fault-of fansFit (fault .fault .ensures) (blank .fans-blank .ensures) (fault .before .fans-fit .ensures) (blank .before .fans-in .ensures) in
+    ap (λ (x : Fans). is.Fans (heldFans x)) (blank .before .fans-in .ensures) ∙ faultless _ _ _ _ found (c .if1 .left)
 
 pub fans-entry-spec : {M : Type 1} → statement M
 fans-entry-spec =

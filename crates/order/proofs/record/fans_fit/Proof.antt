@@ -14,13 +14,19 @@ inside-requires-2 : tie.Need-inside-requires-2
 inside-requires-2 c κs = search needs
 
 returns-2 : tie.Need-returns-2
-returns-2 c = and-off _ (and-on (was-on (c .before .before .before .inside .ensures) (c .before .before .if1 .left)) (was-off (c .before .inside2 .ensures) (c .if2 .taken)))
+returns-2 c =
+    let second = c .before in
+    let first = second .before .before in
+    and-off _ (and-on (was-on (first .inside .ensures) (second .before .if1 .left)) (was-off (second .inside2 .ensures) (c .if2 .taken)))
 
 inside-requires-3 : tie.Need-inside-requires-3
 inside-requires-3 c κs = search needs
 
 returns-3 : tie.Need-returns-3
-returns-3 c = and-on (and-on (was-on (c .before .before .before .before .inside .ensures) (c .before .before .before .if1 .left)) (was-on (c .before .before .inside2 .ensures) (c .before .if2 .left))) (c .inside3 .ensures)
+returns-3 c =
+    let second = c .before .before in
+    let first = second .before .before in
+    and-on (and-on (was-on (first .inside .ensures) (second .before .if1 .left)) (was-on (second .inside2 .ensures) (c .before .if2 .left))) (c .inside3 .ensures)
 
 pub fans-fit-spec : {M : Type 1} → statement M
 fans-fit-spec =
