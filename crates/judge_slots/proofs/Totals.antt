@@ -1,20 +1,21 @@
 -- What the slots of each dose come to, slot by slot.
 use mathlib.Core.Path.{_∙_, _≡_, ap, refl, sym}
-use mathlib.Core.Logic.{_⊎_, inl, inr}
+use mathlib.Core.Bool.{Bool}
 use mathlib.Core.List.{List}
 use Prim.Native.Nat.{ℕ, suc, _+_, _-_, _*_, _<_, _≤_}
-use native.Mathlib.Nat.{eq-or-lt-of-le}
 use native.Mathlib.Omega.{arith}
 use borrow.Author.Tests.{eq-eqb, ne-eqb}
-use lib.ListN.{getD, length, set}
+use lib.ListN.{getD, getD-replicate, length, length-set, replicate, set}
 use lib.Seq.{getD-set-other, getD-set-same}
+use Rattle.model.specs.Limits.{mostDoses}
 use Rattle.model.specs.Sets.{sum}
-use Rattle.model.specs.Plans.{Slot}
+use Rattle.model.specs.Plans.{Class, Slot}
 use Rattle.model.specs.Stands.{ends, starts, unitsOf}
 use Rattle.model.proofs.Sums.{sum-up}
-use Rattle.model.proofs.Fractions.{compare≤}
-use Rattle.records.specs.Plan.{slotIn}
-use Rattle.judge_clauses.specs.Tests.{Counts, needIn, unitsUpTo}
+use Rattle.steps.proofs.Tests.{alike}
+use Rattle.records.specs.Plan.{classIn, slotIn}
+use Rattle.judge_clauses.specs.Tests.{Counts, Tells, needIn, unitsUpTo}
+use Rattle.judge_clauses.proofs.Tell.{tells-by}
 
 module _ (plan : List ℕ) (p : ℕ) where
   units-none : (k : ℕ) → unitsUpTo plan p p k ≡ 0
@@ -38,50 +39,79 @@ own-units k s e = rw (eq-eqb k (s .dose) e)
 no-units : (k : ℕ) (s : Slot) → (k ≡ s .dose → ⊥) → unitsOf k s ≡ 0
 no-units k s e = rw (ne-eqb k (s .dose) e)
 
+-- a dose's need, from the class that was read
+pub need-of : (grams plan numbers : List ℕ) (k need number : ℕ) (c : Class) → number ≡ getD numbers k 0 → c ≡ classIn plan (number - 1)
+    → need ≡ getD grams k 0 * c .time → need ≡ needIn grams plan numbers k
+need-of grams plan numbers k need number c n e f = f ∙ rw (e, n)
+
 -- the sums of the slots up to record i, none above its need
 pub record Summed (grams plan numbers : List ℕ) (doses p i : ℕ) (sums : List ℕ) : Type 0 where
+  pub size : length sums ≡ mostDoses
+  pub from : p ≤ i
   pub total : (k : ℕ) → k < doses → getD sums k 0 ≡ unitsUpTo plan p i k
   pub below : (k : ℕ) → k < doses → getD sums k 0 ≤ needIn grams plan numbers k
 
-module _ (grams plan numbers : List ℕ) (doses p : ℕ) where
-  pub summed-none : (sums : List ℕ) → ((k : ℕ) → k < doses → getD sums k 0 ≡ 0) → Summed grams plan numbers doses p p sums
-  summed-none sums z = record { total = λ k l. z k l ∙ sym (units-none plan p k); below = λ k l. omega (arith, z k l) }
+pub summed-none : (grams plan numbers : List ℕ) (doses p : ℕ) → doses ≤ mostDoses → Summed grams plan numbers doses p p (replicate mostDoses 0)
+summed-none grams plan numbers doses p few = record {
+  size = refl;
+  from = omega arith;
+  total = λ k l. none k l ∙ sym (units-none plan p k);
+  below = λ k l. omega (arith, none k l);
+}
+  where
+    none : (k : ℕ) → k < doses → getD {A = ℕ} (replicate mostDoses 0) k 0 ≡ 0
+    none k l = getD-replicate mostDoses k 0 0 (omega arith)
 
-  module _ (i : ℕ) (sums : List ℕ) (h : Summed grams plan numbers doses p i sums) (pi : p ≤ i) (s : Slot) (e : s ≡ slotIn plan i)
-      (c : Counts doses plan numbers (slotIn plan i)) (need : ℕ) (n : need ≡ getD grams (s .dose) 0 * s .time) where
-    counts : Counts doses plan numbers s
-    counts = rw e c
+-- where all slots are counted, the sums tell what the slots come to
+pub tells-summed : {grams plan numbers : List ℕ} {doses p i : ℕ} {sums : List ℕ} {m : ℕ} {r : Bool} → Summed grams plan numbers doses p i sums → i ≡ m
+    → Tells r ((k : ℕ) → k < doses → getD sums k 0 ≡ needIn grams plan numbers k)
+    → Tells r ((k : ℕ) → k < doses → unitsUpTo plan p m k ≡ needIn grams plan numbers k)
+tells-summed h e t =
+    tells-by t (λ met k l. sym (rw e at (h .total k l)) ∙ met k l) (λ all k l. (rw e at (h .total k l)) ∙ all k l)
 
-    pub need-is : need ≡ needIn grams plan numbers (s .dose)
-    need-is = n ∙ ap (λ (x : ℕ). getD grams (s .dose) 0 * x) (counts .time)
+-- the slots up to record i are summed, slot s is record i, and its dose needs `need`
+pub record SlotRead (grams plan numbers : List ℕ) (doses p i : ℕ) (sums : List ℕ) (s : Slot) (need : ℕ) : Type 0 where
+  pub so-far : Summed grams plan numbers doses p i sums
+  pub slot : s ≡ slotIn plan i
+  pub counts : Counts doses plan numbers s
+  pub needs : need ≡ getD grams (s .dose) 0 * s .time
 
-    pub had-fits : getD sums (s .dose) 0 ≤ need
-    had-fits = omega (arith, need-is, h .below (s .dose) (counts .dose))
+module _ {grams plan numbers : List ℕ} {doses p i : ℕ} {sums : List ℕ} {s : Slot} {need : ℕ} (r : SlotRead grams plan numbers doses p i sums s need) where
+  need-is : need ≡ needIn grams plan numbers (s .dose)
+  need-is = r .needs ∙ ap (λ (x : ℕ). getD grams (s .dose) 0 * x) (r .counts .time)
 
-    grown : unitsUpTo plan p (i + 1) (s .dose) ≡ getD sums (s .dose) 0 + (ends s - starts s)
-    grown = units-more plan p i (s .dose) pi ∙ (let x : unitsOf (s .dose) (slotIn plan i) ≡ ends s - starts s = ap (unitsOf (s .dose)) (sym e) ∙ own-units (s .dose) s refl in omega (arith, h .total (s .dose) (counts .dose)))
+  pub had-fits : getD sums (s .dose) 0 ≤ need
+  had-fits = omega (arith, need-is, r .so-far .below (s .dose) (r .counts .dose))
 
-    -- a sum above its need stays above it
-    pub over-need : need < getD sums (s .dose) 0 + (ends s - starts s) → (m : ℕ) → i < m → ((k : ℕ) → k < doses → unitsUpTo plan p m k ≡ needIn grams plan numbers k) → ⊥
-    over-need l m im all = omega (arith, all (s .dose) (counts .dose), need-is, grown, units-up plan p (i + 1) m (s .dose) (omega arith))
+  grown : unitsUpTo plan p (i + 1) (s .dose) ≡ getD sums (s .dose) 0 + (ends s - starts s)
+  grown =
+      let own : unitsOf (s .dose) (slotIn plan i) ≡ ends s - starts s = ap (unitsOf (s .dose)) (sym (r .slot)) ∙ own-units (s .dose) s refl in
+      omega (arith, units-more plan p i (s .dose) (r .so-far .from), r .so-far .total (s .dose) (r .counts .dose))
 
-    -- one slot more
-    pub summed-more : getD sums (s .dose) 0 + (ends s - starts s) ≤ need → s .dose < length sums
-        → Summed grams plan numbers doses p (i + 1) (set sums (s .dose) (getD sums (s .dose) 0 + (ends s - starts s)))
-    summed-more l w = record { total = λ k kd. total k kd (split k); below = λ k kd. below k kd (split k) }
-      where
-        split : (k : ℕ) → ((k ≡ s .dose) ⊎ (k ≡ s .dose → ⊥))
-        split k = elim (compare≤ k (s .dose)) [
-          | inl g ↦ elim (eq-or-lt-of-le g) [ inl q ↦ inl q | inr q ↦ inr (λ z. omega arith) ]
-          | inr g ↦ inr (λ z. omega arith)
-        ]
+  not-grown : (k : ℕ) → (k ≡ s .dose → ⊥) → unitsUpTo plan p (i + 1) k ≡ unitsUpTo plan p i k
+  not-grown k other =
+      let none : unitsOf k (slotIn plan i) ≡ 0 = ap (unitsOf k) (sym (r .slot)) ∙ no-units k s other in
+      omega (arith, units-more plan p i k (r .so-far .from))
 
-        total : (k : ℕ) → k < doses → ((k ≡ s .dose) ⊎ (k ≡ s .dose → ⊥)) → getD (set sums (s .dose) (getD sums (s .dose) 0 + (ends s - starts s))) k 0 ≡ unitsUpTo plan p (i + 1) k
-        total k kd (inl q) = rw q (getD-set-same sums (s .dose) _ 0 w ∙ sym grown)
-        total k kd (inr q) =
-            getD-set-other sums (s .dose) k _ 0 q ∙ h .total k kd
-            ∙ sym (units-more plan p i k pi ∙ (let x : unitsOf k (slotIn plan i) ≡ 0 = ap (unitsOf k) (sym e) ∙ no-units k s q in omega arith))
+  -- a sum above its need stays above it
+  pub over-need : need < getD sums (s .dose) 0 + (ends s - starts s) → (m : ℕ) → i < m → ((k : ℕ) → k < doses → unitsUpTo plan p m k ≡ needIn grams plan numbers k) → ⊥
+  over-need l m im all = omega (arith, all (s .dose) (r .counts .dose), need-is, grown, units-up plan p (i + 1) m (s .dose) (omega arith))
 
-        below : (k : ℕ) → k < doses → ((k ≡ s .dose) ⊎ (k ≡ s .dose → ⊥)) → getD (set sums (s .dose) (getD sums (s .dose) 0 + (ends s - starts s))) k 0 ≤ needIn grams plan numbers k
-        below k kd (inl q) = rw q (omega (arith, getD-set-same sums (s .dose) (getD sums (s .dose) 0 + (ends s - starts s)) 0 w, need-is))
-        below k kd (inr q) = omega (arith, getD-set-other sums (s .dose) k (getD sums (s .dose) 0 + (ends s - starts s)) 0 q, h .below k kd)
+  -- one slot more: the sum of its dose alone is another
+  pub summed-more : doses ≤ mostDoses → getD sums (s .dose) 0 + (ends s - starts s) ≤ need
+      → Summed grams plan numbers doses p (i + 1) (set sums (s .dose) (getD sums (s .dose) 0 + (ends s - starts s)))
+  summed-more few l = record {
+    size = simp length-set (r .so-far .size);
+    from = omega (arith, r .so-far .from);
+    total = λ k kd. alike k (s .dose) (λ q. rw q (own ∙ sym grown)) (λ q. others k q ∙ r .so-far .total k kd ∙ sym (not-grown k q));
+    below = λ k kd. alike k (s .dose) (λ q. rw q (omega (arith, own, need-is))) (λ q. omega (arith, others k q, r .so-far .below k kd));
+  }
+    where
+      new : ℕ
+      new = getD sums (s .dose) 0 + (ends s - starts s)
+
+      own : getD (set sums (s .dose) new) (s .dose) 0 ≡ new
+      own = getD-set-same sums (s .dose) new 0 (omega (arith, r .so-far .size, r .counts .dose))
+
+      others : (k : ℕ) → (k ≡ s .dose → ⊥) → getD (set sums (s .dose) new) k 0 ≡ getD sums k 0
+      others k q = getD-set-other sums (s .dose) k new 0 q

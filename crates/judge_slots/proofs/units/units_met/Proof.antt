@@ -1,32 +1,40 @@
 -- `units_met` meets its contract: the sums so far are those of the slots passed, none above its need (Totals).
-use mathlib.Core.Path.{_≡_, _∙_, ap, refl, sym}
-use Prim.Native.Nat.{ℕ, _-_, _/_, _<_, _≤_}
-use lib.ListN.{getD, getD-replicate, length}
-use Rattle.model.specs.Limits.{mostDoses}
+use mathlib.Core.Path.{_≡_, refl}
+use Prim.Native.Nat.{_-_, _/_, _≤_}
+use lib.ListN.{length}
+use Rattle.model.specs.Records.{recordSize}
 use Rattle.records.specs.Held.{asSlot}
-use Rattle.judge_clauses.specs.Tests.{Counts, unitsUpTo}
-use Rattle.judge_clauses.proofs.Tell.{tells-by, tells-off}
-use Rattle.judge_slots.proofs.Totals.{Summed, had-fits, over-need, summed-more, summed-none}
+use Rattle.judge_clauses.specs.Tests.{Counts}
+use Rattle.judge_clauses.proofs.Tell.{tells-off}
+use Rattle.judge_slots.proofs.Totals.{SlotRead, Summed, had-fits, over-need, summed-more, summed-none, tells-summed}
 use borrow.Author.Needs.{needs}
 use native.Mathlib.Omega.{arith}
 use Rattle.judge_slots.proofs.units.units_met.Statement.{statement}
 use Rattle.judge_slots.proofs.units.units_met.Tie as tie
 
 abbrev Inv-loop : tie.InvT-loop
-Inv-loop plan p numbers grams doses m sums₀ i₀ sums i = (m ≡ length plan / 32) × (p ≤ i) × (i ≤ m) × (length sums ≡ mostDoses) × Summed grams plan numbers doses p i sums
+Inv-loop plan p numbers grams doses m sums₀ i₀ sums i = (m ≡ length plan / recordSize) × (i ≤ m) × Summed grams plan numbers doses p i sums
 
 abbrev μ-loop : tie.MeasureT-loop
 μ-loop plan p numbers grams doses m sums₀ i₀ sums i = m - i
 
--- a record below the count is one of the plan's
-within : {i m n : ℕ} → m ≡ n → i < m → i < n
-within e l = omega arith
-
 loop-holds : tie.Need-loop-holds Inv-loop μ-loop
-loop-holds c = (refl, omega arith, omega arith, refl, summed-none _ _ _ _ _ _ (λ k l. getD-replicate mostDoses k 0 0 (omega arith)))
+loop-holds c =
+    let A = c .before .args in
+    (refl, c .before .pre .1, summed-none (A .grams .now) (A .plan .now) (A .numbers .now) (A .doses) (A .p) (c .before .pre .0))
 
 slot-at-requires : tie.Need-slot-at-requires Inv-loop μ-loop
 slot-at-requires c κs = omega arith
+
+-- the slot that was read can be counted
+counts : (c : tie.After-slot-at Inv-loop μ-loop) →
+    let turn = c .before .before in
+    let A = turn .before .before .args in
+    Counts (A .doses) (A .plan .now) (A .numbers .now) (asSlot (c .slot-at .result))
+counts c =
+    let turn = c .before .before in
+    let start = turn .before .before in
+    rw (c .slot-at .ensures) (start .pre .3 (turn .loop .i) (omega arith) (turn .loop .inv .2 .from))
 
 cast-k : tie.Need-cast-k Inv-loop μ-loop
 cast-k c = search needs
@@ -35,22 +43,27 @@ mul-had : tie.Need-mul-had Inv-loop μ-loop
 mul-had c = search needs
 
 array-read-had : tie.Need-array-read-had Inv-loop μ-loop
-array-read-had c =
-    let A = c .before .before .before .before .before .args in
-    let k : Counts (A .doses) (A .plan .now) (A .numbers .now) (asSlot (c .before .slot-at .result)) = rw (c .before .slot-at .ensures) (c .before .before .before .before .before .pre .3 (c .before .before .before .loop .i) (within (c .before .before .before .loop .inv .0) (c .before .before .loop-test .taken)) (c .before .before .before .loop .inv .1)) in
-    omega (arith, k .dose, c .before .before .before .before .before .pre .0)
+array-read-had c = omega (arith, counts (c .before) .dose, c .before .before .before .before .before .pre .0)
 
 mul-product : tie.Need-mul-product Inv-loop μ-loop
 mul-product c = search needs
 
 element-copy-out-product : tie.Need-element-copy-out-product Inv-loop μ-loop
-element-copy-out-product c =
-    let A = c .before .before .before .before .before .args in
-    let k : Counts (A .doses) (A .plan .now) (A .numbers .now) (asSlot (c .before .slot-at .result)) = rw (c .before .slot-at .ensures) (c .before .before .before .before .before .pre .3 (c .before .before .before .loop .i) (within (c .before .before .before .loop .inv .0) (c .before .before .loop-test .taken)) (c .before .before .before .loop .inv .1)) in
-    omega (arith, k .dose, c .before .before .before .before .before .pre .0)
+element-copy-out-product c = omega (arith, counts (c .before) .dose, c .before .before .before .before .before .pre .0)
 
 product-requires : tie.Need-product-requires Inv-loop μ-loop
 product-requires c κs = search needs
+
+-- and its dose's need is known
+read : (c : tie.After-product Inv-loop μ-loop) →
+    let slot = c .before .before .before in
+    let turn = slot .before .before in
+    let A = turn .before .before .args in
+    SlotRead (A .grams .now) (A .plan .now) (A .numbers .now) (A .doses) (A .p) (turn .loop .i) (turn .loop .sums) (asSlot (slot .slot-at .result)) (c .product .result)
+read c =
+    let slot = c .before .before .before in
+    let turn = slot .before .before in
+    record { so-far = turn .loop .inv .2; slot = slot .slot-at .ensures; counts = counts slot; needs = c .product .ensures }
 
 ends-requires : tie.Need-ends-requires Inv-loop μ-loop
 ends-requires c κs = search needs
@@ -59,42 +72,26 @@ starts-requires : tie.Need-starts-requires Inv-loop μ-loop
 starts-requires c κs = search needs
 
 sub-units : tie.Need-sub-units Inv-loop μ-loop
-sub-units c =
-    let A = c .before .before .before .before .before .before .before .before .before .args in
-    let k : Counts (A .doses) (A .plan .now) (A .numbers .now) (asSlot (c .before .before .before .before .before .slot-at .result)) = rw (c .before .before .before .before .before .slot-at .ensures) (c .before .before .before .before .before .before .before .before .before .pre .3 (c .before .before .before .before .before .before .before .loop .i) (within (c .before .before .before .before .before .before .before .loop .inv .0) (c .before .before .before .before .before .before .loop-test .taken)) (c .before .before .before .before .before .before .before .loop .inv .1)) in
-    omega (arith, k .long, c .starts .ensures, c .before .ends .ensures)
+sub-units c = omega (arith, read (c .before .before) .counts .long, c .starts .ensures, c .before .ends .ensures)
 
 sub-if1 : tie.Need-sub-if1 Inv-loop μ-loop
-sub-if1 c =
-    let A = c .before .before .before .before .before .before .before .before .before .args in
-    let L = c .before .before .before .before .before .before .before .loop in
-    had-fits (A .grams .now) (A .plan .now) (A .numbers .now) (A .doses) (A .p) (L .i) (L .sums) (L .inv .4) (L .inv .1) (asSlot (c .before .before .before .before .before .slot-at .result)) (c .before .before .before .before .before .slot-at .ensures) (c .before .before .before .before .before .before .before .before .before .pre .3 (L .i) (within (L .inv .0) (c .before .before .before .before .before .before .loop-test .taken)) (L .inv .1)) (c .before .before .product .result) (c .before .before .product .ensures)
+sub-if1 c = had-fits (read (c .before .before))
 
 returns : tie.Need-returns Inv-loop μ-loop
 returns c =
-    let A = c .before .before .before .before .before .before .before .before .before .before .args in
-    let L = c .before .before .before .before .before .before .before .before .loop in
-    let a = c .before .starts .ensures in
-    let b = c .before .before .ends .ensures in
-    let t = c .if1 .taken in
-    tells-off (over-need (A .grams .now) (A .plan .now) (A .numbers .now) (A .doses) (A .p) (L .i) (L .sums) (L .inv .4) (L .inv .1) (asSlot (c .before .before .before .before .before .before .slot-at .result)) (c .before .before .before .before .before .before .slot-at .ensures) (c .before .before .before .before .before .before .before .before .before .before .pre .3 (L .i) (within (L .inv .0) (c .before .before .before .before .before .before .before .loop-test .taken)) (L .inv .1)) (c .before .before .before .product .result) (c .before .before .before .product .ensures) (omega arith) _ (omega arith))
+    let product = c .before .before .before in
+    let starts = c .before .starts .ensures in
+    let ends = c .before .before .ends .ensures in
+    tells-off (over-need (read product) (omega (arith, c .if1 .taken)) _ (omega arith))
 
 add-sums : tie.Need-add-sums Inv-loop μ-loop
-add-sums c =
-    let A = c .before .before .before .before .before .before .before .before .before .before .args in
-    let L = c .before .before .before .before .before .before .before .before .loop in
-    let t = c .if1 .left in
-    let had = had-fits (A .grams .now) (A .plan .now) (A .numbers .now) (A .doses) (A .p) (L .i) (L .sums) (L .inv .4) (L .inv .1) (asSlot (c .before .before .before .before .before .before .slot-at .result)) (c .before .before .before .before .before .before .slot-at .ensures) (c .before .before .before .before .before .before .before .before .before .before .pre .3 (L .i) (within (L .inv .0) (c .before .before .before .before .before .before .before .loop-test .taken)) (L .inv .1)) (c .before .before .before .product .result) (c .before .before .before .product .ensures) in
-    omega arith
+add-sums c = omega (arith, had-fits (read (c .before .before .before)), c .if1 .left)
 
 mul-sums : tie.Need-mul-sums Inv-loop μ-loop
 mul-sums c = search needs
 
 array-write-sums : tie.Need-array-write-sums Inv-loop μ-loop
-array-write-sums c =
-    let A = c .before .before .before .before .before .before .before .before .before .before .args in
-    let k : Counts (A .doses) (A .plan .now) (A .numbers .now) (asSlot (c .before .before .before .before .before .before .slot-at .result)) = rw (c .before .before .before .before .before .before .slot-at .ensures) (c .before .before .before .before .before .before .before .before .before .before .pre .3 (c .before .before .before .before .before .before .before .before .loop .i) (within (c .before .before .before .before .before .before .before .before .loop .inv .0) (c .before .before .before .before .before .before .before .loop-test .taken)) (c .before .before .before .before .before .before .before .before .loop .inv .1)) in
-    omega (arith, k .dose, c .before .before .before .before .before .before .before .before .before .before .pre .0)
+array-write-sums c = omega (arith, read (c .before .before .before) .counts .dose)
 
 add-i : tie.Need-add-i Inv-loop μ-loop
 add-i c = search needs
@@ -104,31 +101,20 @@ loop-less c = search needs
 
 loop-again : tie.Need-loop-again Inv-loop μ-loop
 loop-again c =
-    let A = c .before .before .before .before .before .before .before .before .before .before .args in
-    let L = c .before .before .before .before .before .before .before .before .loop in
-    let a = c .before .starts .ensures in
-    let b = c .before .before .ends .ensures in
-    let t = c .if1 .left in
-    let k : Counts (A .doses) (A .plan .now) (A .numbers .now) (asSlot (c .before .before .before .before .before .before .slot-at .result)) = rw (c .before .before .before .before .before .before .slot-at .ensures) (c .before .before .before .before .before .before .before .before .before .before .pre .3 (L .i) (within (L .inv .0) (c .before .before .before .before .before .before .before .loop-test .taken)) (L .inv .1)) in
-    let had = had-fits (A .grams .now) (A .plan .now) (A .numbers .now) (A .doses) (A .p) (L .i) (L .sums) (L .inv .4) (L .inv .1) (asSlot (c .before .before .before .before .before .before .slot-at .result)) (c .before .before .before .before .before .before .slot-at .ensures) (c .before .before .before .before .before .before .before .before .before .before .pre .3 (L .i) (within (L .inv .0) (c .before .before .before .before .before .before .before .loop-test .taken)) (L .inv .1)) (c .before .before .before .product .result) (c .before .before .before .product .ensures) in (
-      refl,
-      omega arith,
-      omega arith,
-      search needs,
-      rw (a, b) (summed-more (A .grams .now) (A .plan .now) (A .numbers .now) (A .doses) (A .p) (L .i) (L .sums) (L .inv .4) (L .inv .1) (asSlot (c .before .before .before .before .before .before .slot-at .result)) (c .before .before .before .before .before .before .slot-at .ensures) (c .before .before .before .before .before .before .before .before .before .before .pre .3 (L .i) (within (L .inv .0) (c .before .before .before .before .before .before .before .loop-test .taken)) (L .inv .1)) (c .before .before .before .product .result) (c .before .before .before .product .ensures) (omega arith) (omega (arith, k .dose))),
-    )
+    let product = c .before .before .before in
+    let start = product .before .before .before .before .before .before .before in
+    let starts = c .before .starts .ensures in
+    let ends = c .before .before .ends .ensures in
+    let had = had-fits (read product) in
+    (refl, omega arith, rw (starts, ends) (summed-more (read product) (start .pre .0) (omega (arith, c .if1 .left))))
 
 sums-met-requires : tie.Need-sums-met-requires Inv-loop μ-loop
-sums-met-requires c κs = (c .before .before .before .pre .0, c .before .before .before .pre .2)
+sums-met-requires c κs =
+    let start = c .before .before .before in
+    (start .pre .0, start .pre .2)
 
 returns-2 : tie.Need-returns-2 Inv-loop μ-loop
-returns-2 c =
-    let A = c .before .before .before .before .args in
-    let L = c .before .before .loop in
-    let m = length (A .plan .now) / 32 in
-    let done : (k : ℕ) → k < A .doses → getD (L .sums) k 0 ≡ unitsUpTo (A .plan .now) (A .p) m k =
-    λ k l. L .inv .4 .total k l ∙ ap (λ (x : ℕ). unitsUpTo (A .plan .now) (A .p) x k) (omega arith) in
-    tells-by (c .sums-met .ensures) (λ q k l. sym (done k l) ∙ q k l) (λ h k l. done k l ∙ h k l)
+returns-2 c = tells-summed (c .before .before .loop .inv .2) (omega arith) (c .sums-met .ensures)
 
 pub units-met-spec : {M : Type 1} → statement M
 units-met-spec =
