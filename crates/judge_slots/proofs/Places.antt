@@ -59,12 +59,12 @@ tick-before d t q w h = elim (compare≤ d t) [
 
 -- ---- one slot behind another, "by ticks first and then by products of parts"
 
-module _ (s u : Slot) (ls : s .endPart < s .weight) (lu : u .startPart < u .weight) where
+module _ {s u : Slot} (ls : SlotLong s) (lu : SlotLong u) where
   pub ends-earlier : s .endTick < u .startTick → EndsBy s u
-  ends-earlier h = record { by = omega (arith, mul-le-mul-right (s .weight * u .weight) h, mul-le-mul-right (u .weight) (le-of-lt ls)) }
+  ends-earlier h = record { by = omega (arith, mul-le-mul-right (s .weight * u .weight) h, mul-le-mul-right (u .weight) (le-of-lt (ls .end-part))) }
 
   pub ends-later : u .startTick < s .endTick → EndsBy s u → ⊥
-  ends-later h e = omega (arith, e .by, mul-le-mul-right (s .weight * u .weight) h, mul-lt-mul-of-pos-left {k = s .weight} lu (omega arith))
+  ends-later h e = omega (arith, e .by, mul-le-mul-right (s .weight * u .weight) h, mul-lt-mul-of-pos-left {k = s .weight} (lu .start-part) (omega (arith, ls .end-part)))
 
   pub ends-together : s .endTick ≡ u .startTick → s .endPart * u .weight ≤ u .startPart * s .weight → EndsBy s u
   ends-together h l = record { by = omega (arith, ap (λ (x : ℕ). x * (s .weight * u .weight)) h) }

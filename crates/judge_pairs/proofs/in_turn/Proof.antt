@@ -20,32 +20,39 @@ returns c = tells-on (by-interval (omega (arith, c .before .before .interval-of 
 
 returns-2 : tie.Need-returns-2
 returns-2 c =
-    let a = c .before .before .before .interval-of .ensures .0 in
-    let b = c .before .before .interval-of2 .ensures .0 in
-    let t = c .if2 .taken in
-    tells-off (λ h. omega (arith, turn-place h))
+    let places = c .before .before in
+    let of-s = places .before .interval-of .ensures .0 in
+    let of-u = places .interval-of2 .ensures .0 in
+    tells-off (λ h. omega (arith, turn-place h, c .if2 .taken))
+
+-- behind the first two tests: both start in one interval
+one-interval : (c : tie.Else2) →
+    let A = c .before .before .before .before .args in
+    placeIn (A .instants .now) (A .intervals) (asSlot (A .s)) ≡ placeIn (A .instants .now) (A .intervals) (asSlot (A .u))
+one-interval c =
+    let places = c .before .before in
+    omega (arith, places .before .interval-of .ensures .0, places .interval-of2 .ensures .0, c .before .if1 .left, c .if2 .left)
 
 returns-3 : tie.Need-returns-3
-returns-3 c = tells-on (by-fan (omega (arith, c .before .before .before .before .before .before .interval-of .ensures .0, c .before .before .before .before .before .interval-of2 .ensures .0, c .before .before .before .before .if1 .left, c .before .before .before .if2 .left)) (c .if3 .taken))
+returns-3 c = tells-on (by-fan (one-interval (c .before .before .before)) (c .if3 .taken))
 
 returns-4 : tie.Need-returns-4
 returns-4 c =
-    let A = c .before .before .before .before .before .before .before .before .before .before .args in
-    let e : placeIn (A .instants .now) (A .intervals) (asSlot (A .s)) ≡ placeIn (A .instants .now) (A .intervals) (asSlot (A .u)) =
-    omega (arith, c .before .before .before .before .before .before .before .before .before .interval-of .ensures .0, c .before .before .before .before .before .before .before .before .interval-of2 .ensures .0, c .before .before .before .before .before .before .before .if1 .left, c .before .before .before .before .before .before .if2 .left) in
-    let t = c .if4 .taken in
-    tells-off (λ h. omega (arith, turn-fan h e))
+    let interval = one-interval (c .before .before .before .before .before .before) in
+    tells-off (λ h. omega (arith, turn-fan h interval, c .if4 .taken))
 
 ends-by-requires : tie.Need-ends-by-requires
-ends-by-requires c κs = (c .before .before .before .before .before .before .before .before .before .before .pre .1, c .before .before .before .before .before .before .before .before .before .before .pre .2)
+ends-by-requires c κs =
+    let start = c .before .before .before .before .before .before .before .before .before .before in
+    (start .pre .1, start .pre .2)
 
 returns-5 : tie.Need-returns-5
 returns-5 c =
-    let A = c .before .before .before .before .before .before .before .before .before .before .before .args in
-    let e : placeIn (A .instants .now) (A .intervals) (asSlot (A .s)) ≡ placeIn (A .instants .now) (A .intervals) (asSlot (A .u)) =
-    omega (arith, c .before .before .before .before .before .before .before .before .before .before .interval-of .ensures .0, c .before .before .before .before .before .before .before .before .before .interval-of2 .ensures .0, c .before .before .before .before .before .before .before .before .if1 .left, c .before .before .before .before .before .before .before .if2 .left) in
-    let f : A .s .fan ≡ A .u .fan = omega (arith, c .before .before .before .before .if3 .left, c .before .if4 .left) in
-    tells-by (c .ends-by .ensures) (by-time e f) (λ h. turn-time h e f)
+    let fans = c .before .before .before .before in
+    let intervals = fans .before .before .before in
+    let A = intervals .before .before .before .before .args in
+    let fan : A .s .fan ≡ A .u .fan = omega (arith, fans .if3 .left, c .before .if4 .left) in
+    tells-by (c .ends-by .ensures) (by-time (one-interval intervals) fan) (λ h. turn-time h (one-interval intervals) fan)
 
 pub in-turn-spec : {M : Type 1} → statement M
 in-turn-spec =
