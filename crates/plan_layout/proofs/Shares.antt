@@ -23,20 +23,22 @@ tick l r s h = omega (arith, r .week, div-le-of-le-mul (l .weight) {m = s} {n = 
 
 -- ---- a share
 
+-- its class is ready, and what its numbers are at most
+pub record Small (l : Lane) (a x : ℕ) : Type 0 where
+  pub ready : Ready l
+  pub units : l .len * l .weight ≤ week * l .weight
+  pub some : 0 < l .len * l .weight
+  pub fan : a / (l .len * l .weight) ≤ mostFans
+  pub low : a % (l .len * l .weight) < l .len * l .weight
+  pub share : x ≤ l .len * l .weight
+
 module _ {l : Lane} {k a x r size : ℕ} (h : Room l k a x r size) where
   stretch : 0 < l .len * l .weight
   stretch = mul-pos (h .ready .wide) (h .ready .heavy)
 
-  -- what its numbers are at most
-  pub record Small : Type 0 where
-    pub units : l .len * l .weight ≤ week * l .weight
-    pub some : 0 < l .len * l .weight
-    pub fan : a / (l .len * l .weight) ≤ mostFans
-    pub low : a % (l .len * l .weight) < l .len * l .weight
-    pub share : x ≤ l .len * l .weight
-
-  pub small : Small
+  pub small : Small l a x
   small = record {
+    ready = h .ready;
     units = mul-le-mul-right (l .weight) (omega (arith, h .ready .week));
     some = stretch;
     fan = div-le-of-le-mul (l .len * l .weight) {m = a} {n = 8} (omega (arith, h .end));

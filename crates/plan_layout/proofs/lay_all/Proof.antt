@@ -23,7 +23,11 @@ loop-holds : tie.Need-loop-holds Inv-loop μ-loop
 loop-holds c = (omega arith, refl, gather-none _ _ _)
 
 lay-interval-requires : tie.Need-lay-interval-requires Inv-loop μ-loop
-lay-interval-requires c κs = (c .before .before .before .before .before .before .pre .0, omega arith, room-for (c .before .before .before .before .before .before .pre .0) (omega arith) (c .before .before .before .before .before .before .pre .1) (omega arith) (c .before .before .before .loop .inv .2))
+lay-interval-requires c κs =
+    let turn = c .before .before .before in
+    let start = turn .before .before .before in
+    let filled = start .pre .0 in
+    (filled, omega arith, room-for filled (omega arith) (start .pre .1) (omega arith) (turn .loop .inv .2))
 
 add-j : tie.Need-add-j Inv-loop μ-loop
 add-j c = omega arith
@@ -32,7 +36,9 @@ loop-less : tie.Need-loop-less Inv-loop μ-loop
 loop-less c = omega arith
 
 loop-again : tie.Need-loop-again Inv-loop μ-loop
-loop-again c = (omega arith, omega arith, gather-more _ _ (c .before .before .before .before .before .before .loop .inv .2) (c .before .before .lay-interval .ensures))
+loop-again c =
+    let turn = c .before .before .before .before .before .before in
+    (omega arith, omega arith, gather-more _ _ (turn .loop .inv .2) (c .before .before .lay-interval .ensures))
 
 same-length : tie.Need-same-length Inv-loop μ-loop
 same-length c = c .before .before .loop .inv .1

@@ -27,14 +27,31 @@ element-copy-out-share-of c = omega arith
 share-of-requires : tie.Need-share-of-requires Inv-loop μ-loop
 share-of-requires c κs = omega arith
 
+-- what was read is the share of dose k
+share : (c : tie.After-share-of Inv-loop μ-loop) →
+    let turn = c .before .before .before in
+    let A = turn .before .before .before .args in
+    c .share-of .result ≡ shareAt (A .t4) (A .shares .now) (A .i) (turn .loop .k) (A .j)
+share c =
+    let turn = c .before .before .before in
+    let A = turn .before .before .before .args in
+    share-is (A .t4) (A .shares .now) (A .i) (turn .loop .k) (A .j) (c .share-of .ensures)
+
 cast-lay-share : tie.Need-cast-lay-share Inv-loop μ-loop
 cast-lay-share c = omega arith
 
 lay-share-requires : tie.Need-lay-share-requires Inv-loop μ-loop
-lay-share-requires c κs = let A = c .before .before .before .before .before .before .before .args in room-at _ _ (c .before .before .before .before .before .before .before .pre .0) (c .before .before .before .before .loop .inv .2) (omega arith) (omega arith) (share-is (A .t4) (A .shares .now) (A .i) (c .before .before .before .before .loop .k) (A .j) (c .before .share-of .ensures))
+lay-share-requires c κs =
+    let turn = c .before .before .before .before in
+    let start = turn .before .before .before in
+    room-at _ _ (start .pre .0) (turn .loop .inv .2) (omega arith) (omega arith) (share (c .before))
 
 add-a : tie.Need-add-a Inv-loop μ-loop
-add-a c = let A = c .before .before .before .before .before .before .before .before .before .before .args in omega (arith, sum-at _ _ (c .before .before .before .before .before .before .before .before .before .before .pre .0) (c .before .before .before .before .before .before .before .loop .inv .2) (omega arith) (share-is (A .t4) (A .shares .now) (A .i) (c .before .before .before .before .before .before .before .loop .k) (A .j) (c .before .before .before .before .share-of .ensures)))
+add-a c =
+    let read = c .before .before .before .before in
+    let turn = read .before .before .before in
+    let start = turn .before .before .before in
+    omega (arith, sum-at _ _ (start .pre .0) (turn .loop .inv .2) (omega arith) (share read))
 
 add-k : tie.Need-add-k Inv-loop μ-loop
 add-k c = omega arith
@@ -43,13 +60,18 @@ loop-less : tie.Need-loop-less Inv-loop μ-loop
 loop-less c = omega arith
 
 loop-again : tie.Need-loop-again Inv-loop μ-loop
-loop-again c = let A = c .before .before .before .before .before .before .before .before .before .before .args in (omega arith, omega arith, kept-more _ _ (c .before .before .before .before .before .before .before .loop .inv .2) (share-is (A .t4) (A .shares .now) (A .i) (c .before .before .before .before .before .before .before .loop .k) (A .j) (c .before .before .before .before .share-of .ensures)) (c .before .before .lay-share .ensures))
+loop-again c =
+    let read = c .before .before .before .before in
+    let turn = read .before .before .before in
+    (omega arith, omega arith, kept-more _ _ (turn .loop .inv .2) (share read) (c .before .before .lay-share .ensures))
 
 same-length : tie.Need-same-length Inv-loop μ-loop
 same-length c = c .before .loop .inv .1
 
 returns : tie.Need-returns Inv-loop μ-loop
-returns c = laid-all _ _ (c .before .before .before .before .pre .0) (c .before .loop .inv .2) (omega arith)
+returns c =
+    let turn = c .before in
+    laid-all _ _ (turn .before .before .before .pre .0) (turn .loop .inv .2) (omega arith)
 
 pub lay-class-spec : {M : Type 1} → statement M
 lay-class-spec =

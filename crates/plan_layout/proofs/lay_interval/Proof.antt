@@ -1,9 +1,10 @@
 -- `lay_interval` meets its contract: the classes passed are laid, and `below` is the sum of their reserved fans (Arrays).
 use mathlib.Core.Path.{_≡_, refl}
-use Prim.Native.Nat.{_≤_, _-_}
+use Prim.Native.Nat.{_≤_, _<_, _-_}
 use native.Mathlib.Nat.{le-of-lt}
 use native.Mathlib.Omega.{arith}
 use lib.ListN.{length}
+use Rattle.model.specs.Limits.{mostDoses, mostIntervals}
 use Rattle.plan_layout.proofs.Arrays.{Rising, rising-none, rising-more, rooms-at, below-at, interval-all}
 use Rattle.plan_layout.proofs.lay_interval.Statement.{statement}
 use Rattle.plan_layout.proofs.lay_interval.Tie as tie
@@ -17,26 +18,50 @@ abbrev μ-loop : tie.MeasureT-loop
 loop-holds : tie.Need-loop-holds Inv-loop μ-loop
 loop-holds c = (omega arith, refl, rising-none _ _ _ _ _ _)
 
+-- class i and interval j are places of the arrays
+in-arrays : (c : tie.Then1 Inv-loop μ-loop) →
+    let turn = c .before .before in
+    (turn .loop .i < mostDoses) × (turn .before .before .before .args .j < mostIntervals)
+in-arrays c =
+    let filled = c .before .before .before .before .before .pre .0 in
+    (omega (arith, filled .classes), omega (arith, filled .intervals))
+
 lane-of-requires : tie.Need-lane-of-requires Inv-loop μ-loop
-lane-of-requires c κs = (omega (arith, c .before .before .before .before .before .before .pre .0 .classes), omega (arith, c .before .before .before .before .before .before .pre .0 .intervals), le-of-lt (c .before .before .before .before .before .before .pre .0 .wide _ (c .before .before .before .before .before .before .pre .1)))
+lane-of-requires c κs =
+    let start = c .before .before .before .before .before .before in
+    let inside = in-arrays (c .before) in
+    (inside .0, inside .1, le-of-lt (start .pre .0 .wide _ (start .pre .1)))
 
 lay-class-requires : tie.Need-lay-class-requires Inv-loop μ-loop
-lay-class-requires c κs = (rooms-at (c .before .before .before .before .before .before .before .pre .0) (c .before .before .before .before .loop .inv .2) (c .before .before .before .before .before .before .before .pre .1) (omega arith) (c .before .before .before .before .before .before .before .pre .2) (omega arith) (c .lane-of .ensures), c .before .before .before .before .before .before .before .pre .0 .doses, omega (arith, c .before .before .before .before .before .before .before .pre .0 .classes), omega (arith, c .before .before .before .before .before .before .before .pre .0 .intervals), c .before .before .before .before .before .before .before .pre .0 .size)
+lay-class-requires c κs =
+    let turn = c .before .before .before .before in
+    let start = turn .before .before .before in
+    let filled = start .pre .0 in
+    let inside = in-arrays (c .before .before) in (
+      rooms-at filled (turn .loop .inv .2) (start .pre .1) (omega arith) (start .pre .2) (omega arith) (c .lane-of .ensures),
+      filled .doses,
+      inside .0,
+      inside .1,
+      filled .size,
+    )
 
 mul-of-byte : tie.Need-mul-of-byte Inv-loop μ-loop
-mul-of-byte c = omega (arith, c .before .before .before .before .before .before .before .before .before .before .pre .0 .classes)
+mul-of-byte c = omega (arith, in-arrays (c .before .before .before .before .before))
 
 index-1-of-byte : tie.Need-index-1-of-byte Inv-loop μ-loop
-index-1-of-byte c = omega (arith, c .before .before .before .before .before .before .before .before .before .before .pre .0 .classes)
+index-1-of-byte c = omega (arith, in-arrays (c .before .before .before .before .before))
 
 index-2-of-byte : tie.Need-index-2-of-byte Inv-loop μ-loop
-index-2-of-byte c = omega (arith, c .before .before .before .before .before .before .before .before .before .before .pre .0 .intervals)
+index-2-of-byte c = omega (arith, in-arrays (c .before .before .before .before .before))
 
 of-byte-requires : tie.Need-of-byte-requires Inv-loop μ-loop
 of-byte-requires c κs = tt
 
 add-below : tie.Need-add-below Inv-loop μ-loop
-add-below c = omega (arith, below-at (c .before .before .before .before .before .before .before .before .before .before .before .before .pre .0) (c .before .before .before .before .before .before .before .before .before .loop .inv .2) (c .before .before .before .before .before .before .before .before .before .before .before .before .pre .1) (omega arith), c .of-byte .ensures .0)
+add-below c =
+    let turn = c .before .before .before .before .before .before .before .before .before in
+    let start = turn .before .before .before in
+    omega (arith, below-at (start .pre .0) (turn .loop .inv .2) (start .pre .1) (omega arith), c .of-byte .ensures .0)
 
 add-i : tie.Need-add-i Inv-loop μ-loop
 add-i c = omega arith
@@ -45,7 +70,11 @@ loop-less : tie.Need-loop-less Inv-loop μ-loop
 loop-less c = omega arith
 
 loop-again : tie.Need-loop-again Inv-loop μ-loop
-loop-again c = (omega arith, omega arith, rising-more _ _ _ (c .before .before .before .before .before .before .before .before .before .loop .inv .2) (c .before .before .before .before .before .lane-of .ensures) (c .before .before .before .before .lay-class .ensures) (c .of-byte .ensures .0))
+loop-again c =
+    let class = c .before .before .before .before in
+    let lane = class .before in
+    let turn = lane .before .before .before .before in
+    (omega arith, omega arith, rising-more _ _ _ (turn .loop .inv .2) (lane .lane-of .ensures) (class .lay-class .ensures) (c .of-byte .ensures .0))
 
 same-length : tie.Need-same-length Inv-loop μ-loop
 same-length c = c .before .before .loop .inv .1
