@@ -102,8 +102,9 @@ module _ (o : Order) (fit : Fit o) (h : OrderHeld) (sh : HeldFrom o h) (b : List
   in-place : (i : ℕ) → i < m → p ≤ i → InInterval o (placeIn (h .instants) (h .intervals) (slotIn b i)) (slotIn b i)
   in-place i l e =
       let f = q .slots i l e in
-      let s = slotIn b i in
-      rw (sh .instants (placeIn (h .instants) (h .intervals) s) (omega (arith, f .inside .place)), sh .instants (placeIn (h .instants) (h .intervals) s + 1) (omega (arith, f .inside .place))) at (f .inside .interval)
+      let j = placeIn (h .instants) (h .intervals) (slotIn b i) in
+      let inside = f .inside .place in
+      rw (sh .instants j (omega arith), sh .instants (j + 1) (omega arith)) at (f .inside .interval)
 
   named : (i : ℕ) → i < m → p ≤ i → Named o p C (slotIn b i)
   named i l e =
@@ -157,7 +158,11 @@ module _ (o : Order) (fit : Fit o) (h : OrderHeld) (sh : HeldFrom o h) (b : List
     inside′ = in-place l lm (omega arith)
 
     later : placeIn (h .instants) (h .intervals) s < placeIn (h .instants) (h .intervals) u → NoOverlap s u
-    later a = inl (ends-apart _ _ _ _ s u (instants-up o h sh (placeIn (h .instants) (h .intervals) s + 1) (placeIn (h .instants) (h .intervals) u) (omega arith) (omega (arith, fu .inside .place))) (fs .inside .interval) (fu .inside .interval))
+    later a =
+        let i = placeIn (h .instants) (h .intervals) s in
+        let j = placeIn (h .instants) (h .intervals) u in
+        let up = instants-up o h sh (i + 1) j (omega arith) (omega (arith, fu .inside .place)) in
+        inl (ends-apart _ _ _ _ s u up (fs .inside .interval) (fu .inside .interval))
 
     ordered : InOrder o s u
     ordered = go (turn i l pi il lm)
@@ -235,7 +240,9 @@ module _ (o : Order) (fit : Fit o) (h : OrderHeld) (sh : HeldFrom o h) (b : List
             let row = slot-row (recordAt b k) k (q .rows .slot-rows k (omega (arith, both)) g) in
             let e : length (classesOf o p C) + (k - p) ≡ k = omega (arith, classes-long) in
             let z : p + (k - p) ≡ k = omega arith in
-            row ∙ ap read (ap slotRecord (sym (slots-at b p (m - p) (k - p) (omega (arith, both)) ∙ ap (slotIn b) z)) ∙ sym (rw e at (plan-slot (classesOf o p C) slots noSlot (k - p) (omega (arith, length-slots b p (m - p), both)))))
+            let own = slots-at b p (m - p) (k - p) (omega (arith, both)) ∙ ap (slotIn b) z in
+            let there = rw e at (plan-slot (classesOf o p C) slots noSlot (k - p) (omega (arith, length-slots b p (m - p), both))) in
+            row ∙ ap read (ap slotRecord (sym own) ∙ sym there)
         | inr g ↦
             class-row (recordAt b k) k (q .rows .class-rows k g)
             ∙ ap read (sym (plan-class (classesOf o p C) slots k (omega (arith, classes-long)) _ (gather-at p (classAt o p C) noClass k g ∙ sym (is-class k g))))

@@ -92,8 +92,8 @@ fast-by o other r A f t e = rw e (fast A f t)
 
 -- ---- as the plan's first record has it
 
-module _ (o : Order) (other : Judged) (plan : List ℕ) (p : ℕ) (numbers : List ℕ) (leader : Leader (asOrder o) plan p numbers) (l : 0 < p)
-    (c : plans.Class) (e : c ≡ classIn plan 0) where
+module _ (o : Order) (other : Judged) {plan : List ℕ} {p : ℕ} {numbers : List ℕ} (leader : Leader (asOrder o) plan p numbers) (l : 0 < p)
+    {c : plans.Class} (e : c ≡ classIn plan 0) where
   abbrev A : Doses
   A = setsOf numbers 0
 

@@ -1,5 +1,9 @@
 -- `judge` meets its contract: each answer is the verdict of its case (Verdicts).
+use mathlib.Core.Path.{_≡_}
+use Rattle.model.specs.Records.{read}
+use Rattle.model.specs.Orders.{readOrder}
 use Rattle.model.proofs.Orders.{read-fits}
+use Rattle.order.specs.Held.{asOrder}
 use Rattle.judge.proofs.OfOrder.{read-order-is, read-refused}
 use Rattle.judge.proofs.Verdicts.{judged-falls, judged-stands, judged-unread}
 use borrow.Author.Needs.{needs}
@@ -12,20 +16,35 @@ read-order-requires c κs = search needs
 returns : tie.Need-returns
 returns c = judged-unread _ _ _ _ (read-refused (c .before .before .read-order .ensures) (c .if1 .taken))
 
+-- no refusal 2 to 8: the bytes are an order's
+order-is : (c : tie.Else1) →
+    let reading = c .before .before in
+    let A = reading .before .before .before .args in
+    readOrder (A .order .now) ≡ read (asOrder (reading .read-order .result .order))
+order-is c = read-order-is (c .before .before .read-order .ensures) (c .if1 .left)
+
 certify-requires : tie.Need-certify-requires
-certify-requires c κs = read-fits _ _ (read-order-is (c .before .before .before .read-order .ensures) (c .before .if1 .left))
+certify-requires c κs = read-fits _ _ (order-is (c .before))
 
 against-top-requires : tie.Need-against-top-requires
-against-top-requires c κs = (read-fits _ _ (read-order-is (c .before .before .before .before .before .before .read-order .ensures) (c .before .before .before .before .if1 .left)), c .before .before .certify .ensures .leader (c .before .if2 .taken))
+against-top-requires c κs =
+    let certified = c .before .before in
+    (read-fits _ _ (order-is (certified .before .before)), certified .certify .ensures .leader (c .before .if2 .taken))
 
 returns-2 : tie.Need-returns-2
-returns-2 c = judged-stands _ _ _ (read-order-is (c .before .before .before .before .before .before .before .read-order .ensures) (c .before .before .before .before .before .if1 .left)) (c .before .before .before .certify .ensures .tells .yes (c .before .before .if2 .taken)) _ (c .against-top .ensures)
+returns-2 c =
+    let standing = c .before .before in
+    let certified = standing .before in
+    judged-stands _ _ _ (order-is (certified .before .before)) (certified .certify .ensures .tells .yes (standing .if2 .taken)) _ (c .against-top .ensures)
 
 fallen-requires : tie.Need-fallen-requires
-fallen-requires c κs = read-fits _ _ (read-order-is (c .before .before .before .before .before .read-order .ensures) (c .before .before .before .if1 .left))
+fallen-requires c κs = read-fits _ _ (order-is (c .before .before .before))
 
 returns-3 : tie.Need-returns-3
-returns-3 c = judged-falls _ _ _ (read-order-is (c .before .before .before .before .before .before .read-order .ensures) (c .before .before .before .before .if1 .left)) (c .before .before .certify .ensures .tells .no (c .before .if2 .left)) _ (c .fallen .ensures)
+returns-3 c =
+    let falling = c .before in
+    let certified = falling .before in
+    judged-falls _ _ _ (order-is (certified .before .before)) (certified .certify .ensures .tells .no (falling .if2 .left)) _ (c .fallen .ensures)
 
 pub judge-spec : {M : Type 1} → statement M
 judge-spec =

@@ -34,12 +34,20 @@ rates-fall-requires c κs = search needs
 
 returns-6 : tie.Need-returns-6
 returns-6 c =
-    let a = c .before .before .before .before .before .before .before .before .if1 .left in
-    let b = c .before .before .before .before .before .before .before .if2 .left in
-    let d = tells-was (c .before .before .before .before .before .before .class-rows .ensures) (c .before .before .before .before .before .if3 .left) in
-    let e = tells-was (c .before .before .before .before .slot-rows .ensures) (c .before .before .before .if4 .left) in
-    let f = tells-was (c .before .before .all-numbered .ensures) (c .before .if5 .left) in
-    tells-by (c .rates-fall .ensures) (λ q. record { whole = a; few = b; class-rows = d; slot-rows = e; numbered = f; falls = q }) (λ h. h .falls)
+    let numbers = c .before in
+    let slots = numbers .before .before in
+    let classes = slots .before .before in
+    let few = classes .before .before in
+    tells-by (c .rates-fall .ensures)
+    (λ falls. record {
+      whole = few .before .if1 .left;
+      few = few .if2 .left;
+      class-rows = tells-was (classes .before .class-rows .ensures) (classes .if3 .left);
+      slot-rows = tells-was (slots .before .slot-rows .ensures) (slots .if4 .left);
+      numbered = tells-was (numbers .before .all-numbered .ensures) (numbers .if5 .left);
+      falls = falls;
+    })
+    (λ h. h .falls)
 
 pub rows-pass-spec : {M : Type 1} → statement M
 rows-pass-spec =

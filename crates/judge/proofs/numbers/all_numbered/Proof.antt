@@ -27,10 +27,14 @@ index-requires : tie.Need-index-requires Inv-loop μ-loop
 index-requires c κs = search needs
 
 returns : tie.Need-returns Inv-loop μ-loop
-returns c = tells-off (λ h. omega (arith, h (c .before .before .before .before .loop .k) (omega arith) .0))
+returns c =
+    let turn = c .before .before .before .before in
+    tells-off (λ all. omega (arith, all (turn .loop .k) (omega arith) .0))
 
 returns-2 : tie.Need-returns-2 Inv-loop μ-loop
-returns-2 c = tells-off (λ h. omega (arith, h (c .before .before .before .before .before .loop .k) (omega arith) .1))
+returns-2 c =
+    let turn = c .before .before .before .before .before in
+    tells-off (λ all. omega (arith, all (turn .loop .k) (omega arith) .1))
 
 add-k : tie.Need-add-k Inv-loop μ-loop
 add-k c = search needs
@@ -39,12 +43,12 @@ loop-less : tie.Need-loop-less Inv-loop μ-loop
 loop-less c = search needs
 
 loop-again : tie.Need-loop-again Inv-loop μ-loop
-loop-again c = (omega arith, below-more _ _ (c .before .before .before .before .before .loop .inv .1) (omega arith, omega arith))
+loop-again c =
+    let turn = c .before .before .before .before .before in
+    (omega arith, below-more _ _ (turn .loop .inv .1) (omega arith, omega arith))
 
 returns-3 : tie.Need-returns-3 Inv-loop μ-loop
-returns-3 c =
-    let L = c .before .loop in
-    tells-on (λ k l. L .inv .1 k (omega arith))
+returns-3 c = tells-on (λ k l. c .before .loop .inv .1 k (omega arith))
 
 pub all-numbered-spec : {M : Type 1} → statement M
 all-numbered-spec =

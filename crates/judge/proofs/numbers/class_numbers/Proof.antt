@@ -30,7 +30,10 @@ loop-less : tie.Need-loop-less Inv-loop μ-loop
 loop-less c = omega arith
 
 loop-again : tie.Need-loop-again Inv-loop μ-loop
-loop-again c = (refl, omega arith, omega arith, numbers-more _ _ _ _ _ _ (c .before .slot-at .ensures) (c .before .before .before .loop .inv .3) (c .noted .ensures .0) (c .noted .ensures .1) (omega arith))
+loop-again c =
+    let turn = c .before .before .before in
+    let noted = c .noted .ensures in
+    (refl, omega arith, omega arith, numbers-more _ _ _ _ _ _ (c .before .slot-at .ensures) (turn .loop .inv .3) (noted .0) (noted .1) (omega arith))
 
 returns : tie.Need-returns Inv-loop μ-loop
 returns c = numbers-to (omega arith) (c .before .loop .inv .3)

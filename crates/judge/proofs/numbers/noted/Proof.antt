@@ -14,7 +14,9 @@ array-write-numbers : tie.Need-array-write-numbers
 array-write-numbers c = search needs
 
 returns-2 : tie.Need-returns-2
-returns-2 c = (λ l. getD-set-same (c .before .args .before) (c .before .args .dose) (c .before .args .class) 0 (search needs), λ k ne. getD-set-other (c .before .args .before) (c .before .args .dose) k (c .before .args .class) 0 ne)
+returns-2 c =
+    let A = c .before .args in
+    (λ l. getD-set-same (A .before) (A .dose) (A .class) 0 (search needs), λ k other. getD-set-other (A .before) (A .dose) k (A .class) 0 other)
 
 pub noted-spec : {M : Type 1} → statement M
 noted-spec = tie.close (tie.spec returns mul-numbers array-write-numbers returns-2)
