@@ -8,7 +8,7 @@ use Rattle.draw.specs.Drawing.{Sound}
 use Rattle.model.proofs.Answers.{refuses-number}
 
 -- the verdict 0: the order is accepted and the plan stands
-pub judged-sound : (order plan : List ℕ) (a : Answer) → Judges order plan a → a .number ≡ 0 → Sound order plan
-judged-sound order plan a (refuses x r) e = absurd (omega (arith, refuses-number r))
-judged-sound order plan a (falls o acc n) e = absurd (omega arith)
-judged-sound order plan a (stands o acc st) e = record { read-order = o; accepts = acc; stands = st }
+pub judged-sound : {order plan : List ℕ} {a : Answer} → Judges order plan a → a .number ≡ 0 → Sound order plan
+judged-sound (refuses x r) e = absurd (omega (arith, refuses-number r))
+judged-sound (falls o acc n) e = absurd (omega arith)
+judged-sound (stands o acc st) e = record { read-order = o; accepts = acc; stands = st }

@@ -28,7 +28,7 @@ held-count : (o : orders.Order) → heldOrder o .count ≡ length (o .doses)
 unfolding heldOrder
 held-count o = refl
 
-module _ (order plan : List ℕ) (s : Sound order plan) (r : Reading) (h : ReadFrom order r) (d t : ℕ) where
+module _ {order plan : List ℕ} (s : Sound order plan) {r : Reading} (h : ReadFrom order r) (d t : ℕ) where
   abbrev o : orders.Order
   o = s .read-order
 
@@ -54,18 +54,18 @@ module _ (order plan : List ℕ) (s : Sound order plan) (r : Reading) (h : ReadF
       (draws o (s .accepts) (s .stands) (omega (arith, count-again)) g)
 
 -- a refusal of the order or the plan
-pub draws-refused : (order plan : List ℕ) (d t : ℕ) (a : Answer) → Judges order plan a → a .number ≢ 0 → (x : Drawn) → x ≡ noPoint a → Draws order plan d t x
-draws-refused order plan d t a j n x e = rw e (refuses a j n)
+pub draws-refused : {order plan : List ℕ} {d t : ℕ} {a : Answer} {x : Drawn} → Judges order plan a → a .number ≢ 0 → x ≡ noPoint a → Draws order plan d t x
+draws-refused {a = a} j n e = rw e (refuses a j n)
 
 -- ---- the pen
 
 -- "its answer is the point at the new tick": a drawing at the next tick, 604,801 for a pen that is already at or past 604,800
-pub moves-by : (order plan : List ℕ) (d t next : ℕ) (x : Drawn) → next ≡ min t week + 1 → Draws order plan d next x
+pub moves-by : {order plan : List ℕ} {d next : ℕ} {x : Drawn} (t : ℕ) → next ≡ min t week + 1 → Draws order plan d next x
     → (x .answer .number ≢ 0 → Moves order plan (record { dose = d; tick = t }) x (record { dose = d; tick = t }))
     × (x .answer .number ≡ 0 → Moves order plan (record { dose = d; tick = t }) x (record { dose = d; tick = next }))
-moves-by order plan d t next x q (refuses a j n) = (λ m. refuses a j n, λ e. absurd (n e))
-moves-by order plan d t next x q (no-dose o acc st l) = (λ m. no-dose o acc st l, λ e. absurd (omega arith))
-moves-by order plan d t next x q (too-late o acc st l g) = (λ m. at-end o acc st l (omega arith), λ e. absurd (omega arith))
-moves-by order plan d t next x q (draws o acc st l g) =
+moves-by t q (refuses a j n) = (λ m. refuses a j n, λ e. absurd (n e))
+moves-by t q (no-dose o acc st l) = (λ m. no-dose o acc st l, λ e. absurd (omega arith))
+moves-by t q (too-late o acc st l g) = (λ m. at-end o acc st l (omega arith), λ e. absurd (omega arith))
+moves-by {next = next} t q (draws o acc st l g) =
     let e : next ≡ t + 1 = omega arith in
     (λ m. absurd (m refl), λ z. rw e (moves o acc st l (omega arith)))

@@ -105,7 +105,7 @@ units-along (s ∷ slots) d t = go (eqb d (s .dose)) (units-along slots d t)
     go true e = ap (λ (u : ℕ). slotUnits s t + u) e
     go false e = omega (arith, e)
 
-module _ (b : List ℕ) (d : ℕ) (h : Drawable b d) (t : ℕ) where
+module _ {b : List ℕ} {d : ℕ} (h : Drawable b d) (t : ℕ) where
   units-all : unitsLeft b d t 0 (length b / recordSize) ≡ unitsBefore (slotsRead (planRecords b)) d t
   unfolding unitsLeft
   units-all = over-all d (unitsStep t) 0 b h ∙ units-along (slotsRead (planRecords b)) d t
@@ -141,7 +141,7 @@ unfolding along timeOf
 time-along [] d = refl
 time-along (s ∷ slots) d = ap (pick (eqb d (s .dose)) (s .time)) (time-along slots d)
 
-module _ (b : List ℕ) (d : ℕ) (h : Drawable b d) (k m : ℕ) (inv : timeLeft b d k m ≡ timeLeft b d 0 (length b / recordSize)) where
+module _ {b : List ℕ} {d : ℕ} (h : Drawable b d) (k m : ℕ) (inv : timeLeft b d k m ≡ timeLeft b d 0 (length b / recordSize)) where
   time-all : timeLeft b d 0 (length b / recordSize) ≡ timeOf (slotsRead (planRecords b)) d
   unfolding timeLeft
   time-all = over-all d timeStep 0 b h ∙ time-along (slotsRead (planRecords b)) d
@@ -181,7 +181,7 @@ both-on : (x y : Bool) → true ≡ x && y → (true ≡ x) × (true ≡ y)
 both-on true y e = (refl, e)
 both-on false y e = absurd (let z : _≡_ {A = ℕ} 0 1 = cc in omega arith)
 
-module _ (b : List ℕ) (d : ℕ) (h : Drawable b d) (t k m : ℕ) (inv : fedLeft b d t k m ≡ fedLeft b d t 0 (length b / recordSize)) where
+module _ {b : List ℕ} {d : ℕ} (h : Drawable b d) (t k m : ℕ) (inv : fedLeft b d t k m ≡ fedLeft b d t 0 (length b / recordSize)) where
   -- the state by the records behind record k
   abbrev later : State
   later = over d (fedStep t) idle b (k + 1) (m - 1)

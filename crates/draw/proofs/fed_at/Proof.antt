@@ -34,10 +34,11 @@ slot-at-requires c κs = omega arith
 returns : tie.Need-returns Inv-loop μ-loop
 unfolding asState
 returns c =
-    let A = c .before .before .before .before .before .before .before in
-    let L = c .before .before .before .before .loop in
+    let feeding = c .before in
+    let turn = feeding .before .before .before in
+    let start = turn .before .before .before in
     ap (λ (s : Slot). dosing (s .fan)) (c .slot-at .ensures)
-    ∙ fed-found (A .args .plan .now) (A .args .dose) (A .pre) (A .args .tick) (L .k) _ (L .inv .2) (omega arith) (sym (c .before .if1 .taken) ∙ c .before .before .feeds .ensures)
+    ∙ fed-found (start .pre) _ _ _ (turn .loop .inv .2) (omega arith) (sym (feeding .if1 .taken) ∙ feeding .before .feeds .ensures)
 
 add-k : tie.Need-add-k Inv-loop μ-loop
 add-k c = omega arith
@@ -47,18 +48,19 @@ loop-less c = omega arith
 
 loop-again : tie.Need-loop-again Inv-loop μ-loop
 loop-again c =
-    let A = c .before .before .before .before .before .before in
-    let L = c .before .before .before .loop in
-    let n = c .before .before .before .before .record-count .result in
-    let m : n - (L .k + 1) ≡ n - L .k - 1 = omega arith in
-    (omega arith, L .inv .1, rw m (fed-again (A .args .plan .now) (A .args .dose) (A .pre) (A .args .tick) (L .k) _ (L .inv .2) (omega arith) (sym (c .if1 .left) ∙ c .before .feeds .ensures)))
+    let turn = c .before .before .before in
+    let counted = turn .before in
+    let start = counted .before .before in
+    let n = counted .record-count .result in
+    let fewer : n - (turn .loop .k + 1) ≡ n - turn .loop .k - 1 = omega arith in
+    (omega arith, turn .loop .inv .1, rw fewer (fed-again (start .pre) _ _ _ (turn .loop .inv .2) (omega arith) (sym (c .if1 .left) ∙ c .before .feeds .ensures)))
 
 returns-2 : tie.Need-returns-2 Inv-loop μ-loop
 unfolding asState
 returns-2 c =
-    let A = c .before .before .before .before in
-    let L = c .before .loop in
-    fed-end (A .args .plan .now) (A .args .dose) (A .pre) (A .args .tick) (L .k) _ (L .inv .2) (omega arith)
+    let turn = c .before in
+    let start = turn .before .before .before in
+    fed-end (start .pre) _ _ _ (turn .loop .inv .2) (omega arith)
 
 pub fed-at-spec : {M : Type 1} → statement M
 fed-at-spec =

@@ -20,7 +20,10 @@ covers-requires : tie.Need-covers-requires
 covers-requires c κs = search needs
 
 returns-2 : tie.Need-returns-2
-returns-2 c = and-on (was-on (c .before .before .before .own-slot .ensures) (c .before .before .if1 .left)) (c .covers .ensures ∙ ap (λ (s : Slot). covering s (c .before .before .before .before .before .args .tick)) (c .before .slot-at .ensures))
+returns-2 c =
+    let own = c .before .before in
+    let tick = own .before .before .before .args .tick in
+    and-on (was-on (own .before .own-slot .ensures) (own .if1 .left)) (c .covers .ensures ∙ ap (λ (s : Slot). covering s tick) (c .before .slot-at .ensures))
 
 pub feeds-spec : {M : Type 1} → statement M
 feeds-spec =

@@ -11,19 +11,42 @@ no-point-requires : tie.Need-no-point-requires
 no-point-requires c κs = search needs
 
 returns : tie.Need-returns
-returns c = draws-no-dose (c .before .before .before .before .before .before .args .order .now) (c .before .before .before .before .before .before .args .plan .now) (c .before .before .before .before .before .before .pre) (c .before .before .before .read-order .result) (c .before .before .before .read-order .ensures) (c .before .before .before .before .before .before .args .dose) (c .before .before .before .before .before .before .args .tick) _ (c .no-point .ensures) (c .before .if1 .taken)
+returns c =
+    let no-dose = c .before in
+    let reading = no-dose .before .before in
+    let start = reading .before .before .before in
+    let A = start .args in
+    draws-no-dose (start .pre) (reading .read-order .ensures) (A .dose) (A .tick) _ (c .no-point .ensures) (no-dose .if1 .taken)
 
 no-point-requires-2 : tie.Need-no-point-requires-2
 no-point-requires-2 c κs = search needs
 
 returns-2 : tie.Need-returns-2
-returns-2 c = draws-too-late (c .before .before .before .before .before .before .before .args .order .now) (c .before .before .before .before .before .before .before .args .plan .now) (c .before .before .before .before .before .before .before .pre) (c .before .before .before .before .read-order .result) (c .before .before .before .before .read-order .ensures) (c .before .before .before .before .before .before .before .args .dose) (c .before .before .before .before .before .before .before .args .tick) _ (c .no-point2 .ensures) (c .before .before .if1 .left) (c .before .if2 .taken)
+returns-2 c =
+    let late = c .before in
+    let dosed = late .before in
+    let reading = dosed .before .before in
+    let start = reading .before .before .before in
+    let A = start .args in
+    draws-too-late (start .pre) (reading .read-order .ensures) (A .dose) (A .tick) _ (c .no-point2 .ensures) (dosed .if1 .left) (late .if2 .taken)
 
 point-of-requires : tie.Need-point-of-requires
-point-of-requires c κs = (c .before .before .before .read-order .ensures .few, c .before .if1 .left, drawable (c .before .before .before .before .before .before .args .order .now) (c .before .before .before .before .before .before .args .plan .now) (c .before .before .before .before .before .before .pre) (c .before .before .before .read-order .result) (c .before .before .before .read-order .ensures) (c .before .before .before .before .before .before .args .dose) (c .before .before .before .before .before .before .args .tick) (c .before .if1 .left))
+point-of-requires c κs =
+    let dosed = c .before in
+    let reading = dosed .before .before in
+    let start = reading .before .before .before in
+    let A = start .args in
+    let again = reading .read-order .ensures in
+    (again .few, dosed .if1 .left, drawable (start .pre) again (A .dose) (A .tick) (dosed .if1 .left))
 
 returns-3 : tie.Need-returns-3
-returns-3 c = draws-point (c .before .before .before .before .before .before .before .args .order .now) (c .before .before .before .before .before .before .before .args .plan .now) (c .before .before .before .before .before .before .before .pre) (c .before .before .before .before .read-order .result) (c .before .before .before .before .read-order .ensures) (c .before .before .before .before .before .before .before .args .dose) (c .before .before .before .before .before .before .before .args .tick) _ (c .point-of .ensures) (c .before .before .if1 .left) (c .before .if2 .left)
+returns-3 c =
+    let timely = c .before in
+    let dosed = timely .before in
+    let reading = dosed .before .before in
+    let start = reading .before .before .before in
+    let A = start .args in
+    draws-point (start .pre) (reading .read-order .ensures) (A .dose) (A .tick) _ (c .point-of .ensures) (dosed .if1 .left) (timely .if2 .left)
 
 pub in-plan-spec : {M : Type 1} → statement M
 in-plan-spec =

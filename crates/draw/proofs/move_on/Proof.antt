@@ -11,10 +11,18 @@ point-at-requires : tie.Need-point-at-requires
 point-at-requires c κs = search needs
 
 returns : tie.Need-returns
-returns c = moves-by (c .before .before .before .before .before .before .args .order .now) (c .before .before .before .before .before .before .args .plan .now) (c .before .before .before .before .before .before .args .dose) (c .before .before .before .before .before .before .args .tick) (c .before .before .before .next-tick .result) _ (c .before .before .before .next-tick .ensures) (c .before .before .point-at .ensures) .0 (c .if1 .taken)
+returns c =
+    let drawing = c .before .before in
+    let next = drawing .before in
+    let A = next .before .before .before .args in
+    moves-by (A .tick) (next .next-tick .ensures) (drawing .point-at .ensures) .0 (c .if1 .taken)
 
 returns-2 : tie.Need-returns-2
-returns-2 c = moves-by (c .before .before .before .before .before .before .args .order .now) (c .before .before .before .before .before .before .args .plan .now) (c .before .before .before .before .before .before .args .dose) (c .before .before .before .before .before .before .args .tick) (c .before .before .before .next-tick .result) _ (c .before .before .before .next-tick .ensures) (c .before .before .point-at .ensures) .1 (c .if1 .left)
+returns-2 c =
+    let drawing = c .before .before in
+    let next = drawing .before in
+    let A = next .before .before .before .args in
+    moves-by (A .tick) (next .next-tick .ensures) (drawing .point-at .ensures) .1 (c .if1 .left)
 
 pub move-on-spec : {M : Type 1} → statement M
 move-on-spec = tie.close (tie.spec next-tick-requires point-at-requires returns returns-2)

@@ -25,8 +25,10 @@ cast-result c = search needs
 returns-2 : tie.Need-returns-2
 unfolding ownSlot
 returns-2 c =
-    and-on (sym (eq-eqb _ _ (sym (c .before .before .before .kind-at .ensures) ∙ c .before .before .if1 .left)))
-    (ap (λ (s : Slot). eqb (c .before .before .before .before .before .args .dose) (s .dose)) (c .before .slot-at .ensures))
+    let slotted = c .before .before in
+    let dose = slotted .before .before .before .args .dose in
+    and-on (sym (eq-eqb _ _ (sym (slotted .before .kind-at .ensures) ∙ slotted .if1 .left)))
+    (ap (λ (s : Slot). eqb dose (s .dose)) (c .before .slot-at .ensures))
 
 pub own-slot-spec : {M : Type 1} → statement M
 own-slot-spec =

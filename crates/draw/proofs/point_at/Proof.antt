@@ -14,10 +14,18 @@ without-point-requires : tie.Need-without-point-requires
 without-point-requires c κs = search needs
 
 returns : tie.Need-returns
-returns c = draws-refused (c .before .before .before .before .before .before .args .order .now) (c .before .before .before .before .before .before .args .plan .now) (c .before .before .before .before .before .before .args .dose) (c .before .before .before .before .before .before .args .tick) _ (c .before .before .before .judge .ensures .answer) (λ z. c .if1 .taken (ap (λ (d : Drawn). d .answer .number) (c .before .before .without-point .ensures) ∙ z)) _ (c .before .before .without-point .ensures)
+returns c =
+    let answered = c .before .before in
+    let verdict = answered .before .judge .ensures .answer in
+    let answer = answered .without-point .ensures in
+    draws-refused verdict (λ zero. c .if1 .taken (ap (λ (d : Drawn). d .answer .number) answer ∙ zero)) answer
 
 in-plan-requires : tie.Need-in-plan-requires
-in-plan-requires c κs = judged-sound (c .before .before .before .before .before .before .args .order .now) (c .before .before .before .before .before .before .args .plan .now) _ (c .before .before .before .judge .ensures .answer) (sym (ap (λ (d : Drawn). d .answer .number) (c .before .before .without-point .ensures)) ∙ c .if1 .left)
+in-plan-requires c κs =
+    let answered = c .before .before in
+    let verdict = answered .before .judge .ensures .answer in
+    let answer = answered .without-point .ensures in
+    judged-sound verdict (sym (ap (λ (d : Drawn). d .answer .number) answer) ∙ c .if1 .left)
 
 returns-2 : tie.Need-returns-2
 returns-2 c = search needs

@@ -17,13 +17,15 @@ wide-requires : tie.Need-wide-requires
 wide-requires c κs = search needs
 
 div-amount : tie.Need-div-amount
-div-amount c = omega (arith, c .wide .ensures .0, c .before .time-of .ensures, has-time (c .before .before .before .before .args .plan .now) (c .before .before .before .before .args .dose) (c .before .before .before .before .pre .2))
+div-amount c =
+    let start = c .before .before .before .before in
+    omega (arith, c .wide .ensures .0, c .before .time-of .ensures, has-time (start .args .plan .now) (start .args .dose) (start .pre .2))
 
 cast-amount : tie.Need-cast-amount
 cast-amount c =
-    let p = c .wide .ensures .0 ∙ c .before .time-of .ensures in
-    let u = c .before .before .units-before .ensures in
-    rw (p, u) (amount-fits _ _ (c .before .before .before .before .pre .2) _)
+    let time = c .wide .ensures .0 ∙ c .before .time-of .ensures in
+    let units = c .before .before .units-before .ensures in
+    rw (time, units) (amount-fits _ _ (c .before .before .before .before .pre .2) _)
 
 state-of-requires : tie.Need-state-of-requires
 state-of-requires c κs = search needs
@@ -31,9 +33,9 @@ state-of-requires c κs = search needs
 returns : tie.Need-returns
 unfolding drawn
 returns c =
-    let p = c .before .wide .ensures .0 ∙ c .before .before .time-of .ensures in
-    let u = c .before .before .before .units-before .ensures in
-    rw (p, u, c .state-of .ensures)
+    let time = c .before .wide .ensures .0 ∙ c .before .before .time-of .ensures in
+    let units = c .before .before .before .units-before .ensures in
+    rw (time, units, c .state-of .ensures)
 
 pub point-of-spec : {M : Type 1} → statement M
 point-of-spec =

@@ -15,7 +15,9 @@ element-copy-out-deadline c = search needs
 
 returns : tie.Need-returns
 unfolding asState
-returns c = state-finished (c .before .before .before .args .t1) _ (c .before .before .before .args .dose) (c .before .before .before .args .tick) (omega arith) (c .if1 .taken)
+returns c =
+    let A = c .before .before .before .args in
+    state-finished (A .t1) _ (A .dose) (A .tick) (omega arith) (c .if1 .taken)
 
 mul-release : tie.Need-mul-release
 mul-release c = search needs
@@ -25,13 +27,20 @@ element-copy-out-release c = search needs
 
 returns-2 : tie.Need-returns-2
 unfolding asState
-returns-2 c = state-shut (c .before .before .before .before .before .args .t1) _ (c .before .before .before .before .before .args .dose) (c .before .before .before .before .before .args .tick) (omega arith) (c .before .before .if1 .left) (c .if2 .taken)
+returns-2 c =
+    let unfinished = c .before .before in
+    let A = unfinished .before .before .before .args in
+    state-shut (A .t1) _ (A .dose) (A .tick) (omega arith) (unfinished .if1 .left) (c .if2 .taken)
 
 fed-at-requires : tie.Need-fed-at-requires
 fed-at-requires c κs = search needs
 
 returns-3 : tie.Need-returns-3
-returns-3 c = c .fed-at .ensures ∙ state-open (c .before .before .before .before .before .before .args .t1) _ (c .before .before .before .before .before .before .args .dose) (c .before .before .before .before .before .before .args .tick) (omega arith) (c .before .before .before .if1 .left) (c .before .if2 .left)
+returns-3 c =
+    let released = c .before in
+    let unfinished = released .before .before in
+    let A = unfinished .before .before .before .args in
+    c .fed-at .ensures ∙ state-open (A .t1) _ (A .dose) (A .tick) (omega arith) (unfinished .if1 .left) (released .if2 .left)
 
 pub state-of-spec : {M : Type 1} → statement M
 state-of-spec =

@@ -31,10 +31,11 @@ slot-at-requires c κs = omega arith
 
 returns : tie.Need-returns Inv-loop μ-loop
 returns c =
-    let A = c .before .before .before .before .before .before .before in
-    let L = c .before .before .before .before .loop in
+    let own = c .before in
+    let turn = own .before .before .before in
+    let start = turn .before .before .before in
     ap (λ (s : Slot). s .time) (c .slot-at .ensures)
-    ∙ time-found (A .args .plan .now) (A .args .dose) (A .pre) (L .k) _ (L .inv .2) (omega arith) (sym (c .before .if1 .taken) ∙ c .before .before .own-slot .ensures)
+    ∙ time-found (start .pre) _ _ (turn .loop .inv .2) (omega arith) (sym (own .if1 .taken) ∙ own .before .own-slot .ensures)
 
 add-k : tie.Need-add-k Inv-loop μ-loop
 add-k c = omega arith
@@ -44,17 +45,18 @@ loop-less c = omega arith
 
 loop-again : tie.Need-loop-again Inv-loop μ-loop
 loop-again c =
-    let A = c .before .before .before .before .before .before in
-    let L = c .before .before .before .loop in
-    let n = c .before .before .before .before .record-count .result in
-    let m : n - (L .k + 1) ≡ n - L .k - 1 = omega arith in
-    (omega arith, L .inv .1, rw m (time-again (A .args .plan .now) (A .args .dose) (A .pre) (L .k) _ (L .inv .2) (omega arith) (sym (c .if1 .left) ∙ c .before .own-slot .ensures)))
+    let turn = c .before .before .before in
+    let counted = turn .before in
+    let start = counted .before .before in
+    let n = counted .record-count .result in
+    let fewer : n - (turn .loop .k + 1) ≡ n - turn .loop .k - 1 = omega arith in
+    (omega arith, turn .loop .inv .1, rw fewer (time-again (start .pre) _ _ (turn .loop .inv .2) (omega arith) (sym (c .if1 .left) ∙ c .before .own-slot .ensures)))
 
 returns-2 : tie.Need-returns-2 Inv-loop μ-loop
 returns-2 c =
-    let A = c .before .before .before .before in
-    let L = c .before .loop in
-    time-end (A .args .plan .now) (A .args .dose) (A .pre) (L .k) _ (L .inv .2) (omega arith)
+    let turn = c .before in
+    let start = turn .before .before .before in
+    time-end (start .pre) _ _ (turn .loop .inv .2) (omega arith)
 
 pub time-of-spec : {M : Type 1} → statement M
 time-of-spec =

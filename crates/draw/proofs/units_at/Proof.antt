@@ -20,7 +20,10 @@ units-in-requires : tie.Need-units-in-requires
 units-in-requires c κs = search needs
 
 returns-2 : tie.Need-returns-2
-returns-2 c = rw (← was-on (c .before .before .before .own-slot .ensures) (c .before .before .if1 .left)) (c .units-in .ensures ∙ ap (λ (s : Slot). slotUnits s (c .before .before .before .before .before .args .tick)) (c .before .slot-at .ensures))
+returns-2 c =
+    let own = c .before .before in
+    let tick = own .before .before .before .args .tick in
+    rw (← was-on (own .before .own-slot .ensures) (own .if1 .left)) (c .units-in .ensures ∙ ap (λ (s : Slot). slotUnits s tick) (c .before .slot-at .ensures))
 
 pub units-at-spec : {M : Type 1} → statement M
 units-at-spec =

@@ -28,9 +28,9 @@ units-at-requires c κs = omega arith
 
 add-sum : tie.Need-add-sum Inv-loop μ-loop
 add-sum c =
-    let A = c .before .before .before .before .before in
-    let L = c .before .before .loop in
-    omega (arith, c .units-at .ensures, units-fit (A .args .plan .now) (A .args .dose) (A .pre) (A .args .tick) (L .k) _ (L .sum) (L .inv .2) (omega arith))
+    let turn = c .before .before in
+    let start = turn .before .before .before in
+    omega (arith, c .units-at .ensures, units-fit (start .pre) (start .args .tick) _ _ (turn .loop .sum) (turn .loop .inv .2) (omega arith))
 
 add-k : tie.Need-add-k Inv-loop μ-loop
 add-k c = omega arith
@@ -40,17 +40,18 @@ loop-less c = omega arith
 
 loop-again : tie.Need-loop-again Inv-loop μ-loop
 loop-again c =
-    let A = c .before .before .before .before .before in
-    let L = c .before .before .loop in
-    let n = c .before .before .before .record-count .result in
-    let m : n - (L .k + 1) ≡ n - L .k - 1 = omega arith in
-    (omega arith, L .inv .1, rw (m, c .units-at .ensures) (units-again (A .args .plan .now) (A .args .dose) (A .pre) (A .args .tick) (L .k) _ (L .sum) (L .inv .2) (omega arith)))
+    let turn = c .before .before in
+    let counted = turn .before in
+    let start = counted .before .before in
+    let n = counted .record-count .result in
+    let fewer : n - (turn .loop .k + 1) ≡ n - turn .loop .k - 1 = omega arith in
+    (omega arith, turn .loop .inv .1, rw (fewer, c .units-at .ensures) (units-again (start .pre) _ _ _ (turn .loop .sum) (turn .loop .inv .2) (omega arith)))
 
 returns : tie.Need-returns Inv-loop μ-loop
 returns c =
-    let A = c .before .before .before .before in
-    let L = c .before .loop in
-    units-end (A .args .plan .now) (A .args .dose) (A .pre) (A .args .tick) (L .k) _ (L .sum) (L .inv .2) (omega arith)
+    let turn = c .before in
+    let start = turn .before .before .before in
+    units-end (start .pre) _ _ _ (turn .loop .sum) (turn .loop .inv .2) (omega arith)
 
 pub units-before-spec : {M : Type 1} → statement M
 units-before-spec =
