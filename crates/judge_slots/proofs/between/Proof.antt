@@ -13,10 +13,9 @@ moment-requires c κs = search needs
 
 returns : tie.Need-returns
 returns c =
-    let a = c .before .before .starts .ensures in
-    let b = c .before .moment .ensures in
-    let t = c .if1 .taken in
-    tells-off (λ h. omega (arith, h .low))
+    let low = c .before .moment .ensures in
+    let starts = c .before .before .starts .ensures in
+    tells-off (λ h. omega (arith, h .low, c .if1 .taken))
 
 ends-requires : tie.Need-ends-requires
 ends-requires c κs = search needs
@@ -26,12 +25,12 @@ moment-requires-2 c κs = search needs
 
 returns-2 : tie.Need-returns-2
 returns-2 c =
-    let a = c .before .before .before .before .starts .ensures in
-    let b = c .before .before .before .moment .ensures in
-    let t = c .before .before .if1 .left in
-    let e = c .before .ends .ensures in
-    let d = c .moment2 .ensures in
-    tells-leb (c .before .ends .result) (c .moment2 .result) (λ l. record { low = omega arith; high = omega (arith, l) }) (λ h. omega (arith, h .high))
+    let tested = c .before .before in
+    let low = tested .before .moment .ensures in
+    let starts = tested .before .before .starts .ensures in
+    let high = c .moment2 .ensures in
+    let ends = c .before .ends .ensures in
+    tells-leb (c .before .ends .result) (c .moment2 .result) (λ l. record { low = omega (arith, tested .if1 .left); high = omega (arith, l) }) (λ h. omega (arith, h .high))
 
 pub between-spec : {M : Type 1} → statement M
 between-spec =

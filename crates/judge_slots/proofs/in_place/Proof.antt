@@ -31,9 +31,10 @@ between-requires c κs = search needs
 
 returns-2 : tie.Need-returns-2
 returns-2 c =
-    let e = c .before .before .before .before .interval-of .ensures .0 in
-    let l = c .before .before .before .if1 .left in
-    tells-by (c .between .ensures) (λ b. record { place = omega arith; interval = rw e at b }) (λ h. rw e (h .interval))
+    let found = c .before .before .before in
+    let place = found .before .interval-of .ensures .0 in
+    let within = found .if1 .left in
+    tells-by (c .between .ensures) (λ b. record { place = omega arith; interval = rw place at b }) (λ h. rw place (h .interval))
 
 pub in-place-spec : {M : Type 1} → statement M
 in-place-spec =

@@ -38,10 +38,10 @@ loop-less c = search needs
 
 loop-again : tie.Need-loop-again Inv-loop μ-loop
 loop-again c =
-    let L = c .before .before .before .loop in
-    let J = c .before .before .before .before .args .intervals in
-    let e : J - (L .j + 1) ≡ J - L .j - 1 = omega arith in
-    (omega arith, rw e (sym (scan-on _ _ _ _ (omega arith) (c .if1 .left)) ∙ L .inv .1))
+    let turn = c .before .before .before in
+    let intervals = turn .before .args .intervals in
+    let fewer : intervals - (turn .loop .j + 1) ≡ intervals - turn .loop .j - 1 = omega arith in
+    (omega arith, rw fewer (sym (scan-on _ _ _ _ (omega arith) (c .if1 .left)) ∙ turn .loop .inv .1))
 
 returns-2 : tie.Need-returns-2 Inv-loop μ-loop
 returns-2 c = (sym (scan-none _ _ _ _ (omega arith)) ∙ c .before .loop .inv .1, omega arith)

@@ -1,7 +1,8 @@
 -- `slot_fits` meets its contract: each test asks for one clause.
 use mathlib.Core.Path.{_≡_, _∙_, ap}
-use Prim.Native.Nat.{ℕ, _-_}
-use lib.ListN.{getD}
+use Prim.Native.Nat.{ℕ, _-_, _/_, _≤_}
+use lib.ListN.{getD, length}
+use Rattle.model.specs.Records.{recordSize}
 use Rattle.records.specs.Held.{asClass}
 use Rattle.records.specs.Plan.{classIn}
 use Rattle.judge_clauses.proofs.Tell.{tells-by, tells-not, tells-off, tells-was}
@@ -25,21 +26,34 @@ element-copy-out-number c = search needs
 index-requires : tie.Need-index-requires
 index-requires c κs = search needs
 
+-- the number that was read is one of the plan's classes
+numbered : (c : tie.After-index) →
+    let start = c .before .before .before .before .before in
+    (1 ≤ c .index .result) × (c .index .result ≤ length (start .args .plan .now) / recordSize)
+numbered c =
+    let known = c .before .before in
+    let start = known .before .before .before in
+    rw (c .index .ensures .0) (start .pre .2 (start .args .s .dose) (known .if1 .left))
+
 sub-class-at : tie.Need-sub-class-at
-sub-class-at c = omega (arith, c .index .ensures .0, c .before .before .before .before .before .pre .2 (c .before .before .before .before .before .args .s .dose) (c .before .before .if1 .left) .0)
+sub-class-at c = omega (arith, numbered c)
 
 class-at-requires : tie.Need-class-at-requires
-class-at-requires c κs = omega (arith, c .index .ensures .0, c .before .before .before .before .before .pre .2 (c .before .before .before .before .before .args .s .dose) (c .before .before .if1 .left) .0, c .before .before .before .before .before .pre .2 (c .before .before .before .before .before .args .s .dose) (c .before .before .if1 .left) .1)
+class-at-requires c κs = omega (arith, numbered c)
+
+-- the class that was read is that of the slot's dose
+class-is : (c : tie.After-class-at) →
+    let A = c .before .before .before .before .before .before .args in
+    asClass (c .class-at .result) ≡ classIn (A .plan .now) (getD (A .numbers .now) (A .s .dose) 0 - 1)
+class-is c =
+    let plan = c .before .before .before .before .before .before .args .plan .now in
+    c .class-at .ensures ∙ ap (λ (n : ℕ). classIn plan (n - 1)) (c .before .index .ensures .0)
 
 slot-names-requires : tie.Need-slot-names-requires
 slot-names-requires c κs = search needs
 
 returns-2 : tie.Need-returns-2
-returns-2 c =
-    let A = c .before .before .before .before .before .before .before .before .args in
-    let e : asClass (c .before .before .class-at .result) ≡ classIn (A .plan .now) (getD (A .numbers .now) (A .s .dose) 0 - 1) =
-    c .before .before .class-at .ensures ∙ ap (λ (n : ℕ). classIn (A .plan .now) (n - 1)) (c .before .before .before .index .ensures .0) in
-    tells-off (λ h. tells-not (c .before .slot-names .ensures) (c .if2 .taken) (rw e (h .names)))
+returns-2 c = tells-off (λ h. tells-not (c .before .slot-names .ensures) (c .if2 .taken) (rw (class-is (c .before .before)) (h .names)))
 
 slot-long-requires : tie.Need-slot-long-requires
 slot-long-requires c κs = search needs
@@ -70,14 +84,20 @@ in-place-requires c κs = search needs
 
 returns-5 : tie.Need-returns-5
 returns-5 c =
-    let A = c .before .before .before .before .before .before .before .before .before .before .before .before .before .before .before .args in
-    let e : asClass (c .before .before .before .before .before .before .before .before .before .class-at .result) ≡ classIn (A .plan .now) (getD (A .numbers .now) (A .s .dose) 0 - 1) =
-    c .before .before .before .before .before .before .before .before .before .class-at .ensures ∙ ap (λ (n : ℕ). classIn (A .plan .now) (n - 1)) (c .before .before .before .before .before .before .before .before .before .before .index .ensures .0) in
-    let d = c .before .before .before .before .before .before .before .before .before .before .before .before .if1 .left in
-    let names = tells-was (c .before .before .before .before .before .before .before .before .slot-names .ensures) (c .before .before .before .before .before .before .before .if2 .left) in
-    let long = tells-was (c .before .before .before .before .before .before .slot-long .ensures) (c .before .before .before .before .before .if3 .left) in
-    let window = tells-was (c .before .before .between .ensures) (c .before .if4 .left) in
-    tells-by (c .in-place .ensures) (λ q. record { dose = d; names = rw e at names; long = long; window = window; inside = q }) (λ h. h .inside)
+    let inside = c .before in
+    let long = inside .before .before .before .before in
+    let named = long .before .before in
+    let class = named .before .before in
+    let known = class .before .before .before in
+    tells-by (c .in-place .ensures)
+    (λ place. record {
+      dose = known .if1 .left;
+      names = rw (class-is class) at (tells-was (named .before .slot-names .ensures) (named .if2 .left));
+      long = tells-was (long .before .slot-long .ensures) (long .if3 .left);
+      window = tells-was (inside .before .between .ensures) (inside .if4 .left);
+      inside = place;
+    })
+    (λ h. h .inside)
 
 pub slot-fits-spec : {M : Type 1} → statement M
 slot-fits-spec =

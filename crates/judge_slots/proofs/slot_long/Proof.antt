@@ -19,11 +19,12 @@ ends-requires c κs = search needs
 
 returns-3 : tie.Need-returns-3
 returns-3 c =
-    let a = c .before .before .before .before .if1 .left in
-    let b = c .before .before .if2 .left in
-    let x = c .before .starts .ensures in
-    let y = c .ends .ensures in
-    tells-ltb (c .before .starts .result) (c .ends .result) (λ l. record { start-part = a; end-part = b; long = omega (arith, l) }) (λ h. omega (arith, h .long))
+    let parts = c .before .before in
+    let starts = c .before .starts .ensures in
+    let ends = c .ends .ensures in
+    tells-ltb (c .before .starts .result) (c .ends .result)
+    (λ l. record { start-part = parts .before .before .if1 .left; end-part = parts .if2 .left; long = omega (arith, l) })
+    (λ h. omega (arith, h .long))
 
 pub slot-long-spec : {M : Type 1} → statement M
 slot-long-spec = tie.close (tie.spec returns returns-2 starts-requires ends-requires returns-3)
