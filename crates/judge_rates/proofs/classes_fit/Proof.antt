@@ -8,9 +8,9 @@ use Rattle.model.specs.Limits.{mostIntervals}
 use Rattle.measure.specs.Arrays.{setsOf}
 use Rattle.measure.proofs.Free.{Frees, frees-all}
 use Rattle.records.specs.Plan.{classIn}
-use Rattle.judge_clauses.specs.Tests.{ClassFits, fansIn, settingIn, orderHeld}
+use Rattle.judge_clauses.specs.Tests.{ClassFits, OrderHeld, fansIn, settingIn, orderHeld}
 use Rattle.judge_clauses.proofs.Tell.{tells-not, tells-off, tells-on, tells-was}
-use Rattle.judge_rates.proofs.Fitting.{frees-after, says-fits}
+use Rattle.judge_rates.proofs.Fitting.{WorkedOut, frees-after, says-fits}
 use Rattle.judge_rates.proofs.classes_fit.Statement.{statement}
 use Rattle.judge_rates.proofs.classes_fit.Tie as tie
 
@@ -47,23 +47,49 @@ size-of-requires c κs = search needs
 class-at-requires : tie.Need-class-at-requires Inv-loop μ-loop
 class-at-requires c κs = search needs
 
+-- the order, in the arrays that hold it
+abbrev held : tie.Start Inv-loop μ-loop → OrderHeld
+held start =
+    let A = start .args in
+    orderHeld (A .doses) (A .intervals) (A .fans) (A .release .now) (A .deadline .now) (A .grams .now) (A .instants .now)
+
+-- what was worked out for class i
+worked-out : (c : tie.After-size-of Inv-loop μ-loop) →
+    let weighed = c .before in
+    let timed = weighed .before in
+    let opened = timed .before in
+    let marked = opened .before in
+    let turn = marked .before .before in
+    let start = turn .before .before in
+    WorkedOut (held start) (start .args .numbers .now) (turn .loop .i) (turn .loop .free) (marked .set-of .result) (opened .open-fans .result) (c .size-of .result)
+    (weighed .weight-of .result) (timed .fan-time .result)
+worked-out c =
+    let weighed = c .before in
+    let timed = weighed .before in
+    let opened = timed .before in
+    let marked = opened .before in
+    let turn = marked .before .before in
+    let start = turn .before .before in
+    record {
+      few-doses = start .pre .2;
+      few-intervals = start .pre .3;
+      left = turn .loop .inv .1;
+      marked = marked .set-of .ensures;
+      opened = opened .open-fans .ensures;
+      counted = c .size-of .ensures .0;
+      weighed = weighed .weight-of .ensures;
+      timed = timed .fan-time .ensures;
+    }
+
 says-requires : tie.Need-says-requires Inv-loop μ-loop
 says-requires c κs = search needs
 
 returns : tie.Need-returns Inv-loop μ-loop
 returns c =
-    let start = c .before .before .before .before .before .before .before .before .before .before .before in
-    let A = start .args in
-    let L = c .before .before .before .before .before .before .before .before .before .loop in
-    let h = orderHeld (A .doses) (A .intervals) (A .fans) (A .release .now) (A .deadline .now) (A .grams .now) (A .instants .now) in
-    let marked = c .before .before .before .before .before .before .before .set-of in
-    let opened = c .before .before .before .before .before .before .open-fans in
-    let timed = c .before .before .before .before .before .fan-time in
-    let weighed = c .before .before .before .before .weight-of in
-    let counted = c .before .before .before .size-of in
-    let read = c .before .before .class-at in
-    let tells = says-fits h (start .pre .2) (start .pre .3) (A .numbers .now) (L .i) (L .free) (L .inv .1) (marked .result) (marked .ensures) (opened .result) (opened .ensures) (counted .result) (weighed .result) (timed .result) (counted .ensures .0) (weighed .ensures) (timed .ensures) _ (c .before .says .ensures) in
-    tells-off (λ all. tells-not tells (c .if1 .taken) (rw (read .ensures) (all (L .i) (c .before .before .before .before .before .before .before .before .loop-test .taken))))
+    let read = c .before .before in
+    let entered = read .before .before .before .before .before .before in
+    let fits = says-fits (worked-out (read .before)) _ (c .before .says .ensures) in
+    tells-off (λ all. tells-not fits (c .if1 .taken) (rw (read .class-at .ensures) (all (entered .before .loop .i) (entered .loop-test .taken))))
 
 free-after-requires : tie.Need-free-after-requires Inv-loop μ-loop
 free-after-requires c κs = search needs
@@ -76,26 +102,17 @@ loop-less c = search needs
 
 loop-again : tie.Need-loop-again Inv-loop μ-loop
 loop-again c =
-    let start = c .before .before .before .before .before .before .before .before .before .before .before .before in
-    let A = start .args in
-    let L = c .before .before .before .before .before .before .before .before .before .before .loop in
-    let h = orderHeld (A .doses) (A .intervals) (A .fans) (A .release .now) (A .deadline .now) (A .grams .now) (A .instants .now) in
-    let marked = c .before .before .before .before .before .before .before .before .set-of in
-    let opened = c .before .before .before .before .before .before .before .open-fans in
-    let timed = c .before .before .before .before .before .before .fan-time in
-    let weighed = c .before .before .before .before .before .weight-of in
-    let counted = c .before .before .before .before .size-of in
-    let read = c .before .before .before .class-at in
-    let tells = says-fits h (start .pre .2) (start .pre .3) (A .numbers .now) (L .i) (L .free) (L .inv .1) (marked .result) (marked .ensures) (opened .result) (opened .ensures) (counted .result) (weighed .result) (timed .result) (counted .ensures .0) (weighed .ensures) (timed .ensures) _ (c .before .before .says .ensures) in (
-      omega (arith, c .before .before .before .before .before .before .before .before .before .loop-test .taken),
-      frees-after h (start .pre .2) (start .pre .3) (A .numbers .now) (L .i) (L .free) (L .inv .1) (marked .result) (marked .ensures) (opened .result) (opened .ensures) (counted .result) (weighed .result) (timed .result) (counted .ensures .0) (weighed .ensures) (timed .ensures) _ (c .free-after .ensures),
-      below-more _ _ (L .inv .2) (rw (read .ensures) at (tells-was tells (c .before .if1 .left))),
+    let read = c .before .before .before in
+    let entered = read .before .before .before .before .before .before in
+    let out = worked-out (read .before) in
+    let fits = says-fits out _ (c .before .before .says .ensures) in (
+      omega (arith, entered .loop-test .taken),
+      frees-after out _ (c .free-after .ensures),
+      below-more _ _ (entered .before .loop .inv .2) (rw (read .class-at .ensures) at (tells-was fits (c .before .if1 .left))),
     )
 
 returns-2 : tie.Need-returns-2 Inv-loop μ-loop
-returns-2 c =
-    let L = c .before .loop in
-    tells-on (λ k l. L .inv .2 k (omega arith))
+returns-2 c = tells-on (λ k l. c .before .loop .inv .2 k (omega arith))
 
 pub classes-fit-spec : {M : Type 1} → statement M
 classes-fit-spec =

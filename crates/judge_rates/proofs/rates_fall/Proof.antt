@@ -34,7 +34,12 @@ falls-requires : tie.Need-falls-requires Inv-loop μ-loop
 falls-requires c κs = search needs
 
 returns : tie.Need-returns Inv-loop μ-loop
-returns c = tells-off (λ h. tells-not (c .before .falls .ensures) (c .if1 .taken) (rw (c .before .before .before .class-at .ensures, c .before .before .class-at2 .ensures) (h (c .before .before .before .before .before .loop .i) (omega arith))))
+returns c =
+    let next = c .before .before in
+    let class = next .before in
+    let turn = class .before .before in
+    tells-off (λ all.
+    tells-not (c .before .falls .ensures) (c .if1 .taken) (rw (class .class-at .ensures, next .class-at2 .ensures) (all (turn .loop .i) (omega arith))))
 
 add-i : tie.Need-add-i Inv-loop μ-loop
 add-i c = search needs
@@ -43,13 +48,15 @@ loop-less : tie.Need-loop-less Inv-loop μ-loop
 loop-less c = search needs
 
 loop-again : tie.Need-loop-again Inv-loop μ-loop
-loop-again c = (omega arith, below-more _ _ (c .before .before .before .before .before .loop .inv .1) (rw (c .before .before .before .class-at .ensures, c .before .before .class-at2 .ensures) at (tells-was (c .before .falls .ensures) (c .if1 .left))))
+loop-again c =
+    let next = c .before .before in
+    let class = next .before in
+    let turn = class .before .before in
+    let falls = tells-was (c .before .falls .ensures) (c .if1 .left) in
+    (omega arith, below-more _ _ (turn .loop .inv .1) (rw (class .class-at .ensures, next .class-at2 .ensures) at falls))
 
 returns-2 : tie.Need-returns-2 Inv-loop μ-loop
-returns-2 c =
-    let L = c .before .loop in
-    let t = c .loop-test .left in
-    tells-on (λ k l. L .inv .1 k (omega arith))
+returns-2 c = tells-on (λ k l. c .before .loop .inv .1 k (omega arith))
 
 pub rates-fall-spec : {M : Type 1} → statement M
 rates-fall-spec =

@@ -34,11 +34,12 @@ cast-result c = search needs
 
 returns-5 : tie.Need-returns-5
 returns-5 c =
-    let x = c .before .before .before .before .before .before .before .if1 .left in
-    let y = c .before .before .before .before .before .if2 .left in
-    let z = c .before .before .before .if3 .left in
-    let w = c .before .if4 .left in
-    tells-eqb _ _ (λ e. record { number = x; doses = y; some = z; weighs = w; lasts = e }) (λ h. h .lasts)
+    let weighing = c .before in
+    let some = weighing .before .before in
+    let sized = some .before .before in
+    tells-eqb _ _
+    (λ time. record { number = sized .before .before .if1 .left; doses = sized .if2 .left; some = some .if3 .left; weighs = weighing .if4 .left; lasts = time })
+    (λ h. h .lasts)
 
 pub says-spec : {M : Type 1} → statement M
 says-spec =
