@@ -11,6 +11,7 @@ use Prim.Native.Nat.{ℕ, _+_, _*_, _≤_, _<_}
 use native.Mathlib.Omega.{arith}
 use borrow.Author.Tests.{ne-eqb}
 use lib.ListN.{getD, length, take}
+use Rattle.model.specs.Records.{recordSize}
 use Rattle.model.specs.Sets.{Doses}
 use Rattle.model.specs.Orders.{Order}
 use Rattle.model.specs.Classes.{Classes}
@@ -162,12 +163,12 @@ refusal-changes-no-pen {x = x} h n = pen-goes h ∙ rw (ne-eqb (x .answer .numbe
 
 -- success changes only the plan's own records: the buffer is as long as before, and every byte from the last record's end on is as it was
 pub success-changes-its-records : {order before : List ℕ} {r : Planned} {after : List ℕ} → Plans order before r after
-    → (length after ≡ length before) × ((i : ℕ) → 32 * (r .classes + r .slots) ≤ i → getD after i 0 ≡ getD before i 0)
+    → (length after ≡ length before) × ((i : ℕ) → recordSize * (r .classes + r .slots) ≤ i → getD after i 0 ≡ getD before i 0)
 success-changes-its-records h = let k = kept h in (k .as-long, k .behind)
 
 -- which are the plan
 pub success-leaves-the-plan : {order before : List ℕ} {r : Planned} {after : List ℕ} → Plans order before r after → r .answer .number ≡ 0
-    → (o : Order) × Accepts order o × Stands o (take (32 * (r .classes + r .slots)) after)
+    → (o : Order) × Accepts order o × Stands o (take (recordSize * (r .classes + r .slots)) after)
 success-leaves-the-plan (Plans.no-room s) z = absurd (omega arith)
 success-leaves-the-plan (Plans.refuses w a q) z = absurd (omega (arith, refuses-number q))
 success-leaves-the-plan {order} {before} {r} {after} (Plans.plans w o g p C c x v) z =

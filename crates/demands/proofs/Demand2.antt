@@ -18,7 +18,7 @@ use lib.ListN.{length, getD}
 use Rattle.model.specs.Limits.{planRoom}
 use Rattle.model.specs.Sets.{Doses}
 use Rattle.model.specs.Lists.{total}
-use Rattle.model.specs.Records.{read}
+use Rattle.model.specs.Records.{recordSize, read}
 use Rattle.model.specs.Orders.{Order, doseAt, readOrder}
 use Rattle.model.specs.Classes.{Classes, P, W, classP}
 use Rattle.model.specs.Intervals.{fansPresent, settingOf}
@@ -132,7 +132,7 @@ plan-exists = accepted-plan
 
 -- planning it with room leaves a plan that stands, and counts its records
 pub planner-stands : (order before : List ℕ) (o : Order) → Accepts order o → planRoom ≤ length before → (r : Planned) (after : List ℕ) → Plans order before r after
-    → (plan : List ℕ) × Stands o plan × (after ≡ overwritten before plan) × (r .answer ≡ done) × (length plan ≡ 32 * (r .classes + r .slots))
+    → (plan : List ℕ) × Stands o plan × (after ≡ overwritten before plan) × (r .answer ≡ done) × (length plan ≡ recordSize * (r .classes + r .slots))
 planner-stands order before o a room r after h =
     let l = planned order before o a room r after h in
     (l .plan, l .stands, l .bytes, l .finished, l .counted)

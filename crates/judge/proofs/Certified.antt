@@ -12,7 +12,7 @@ use lib.Dec.{T, T-not, eqb→eq, eqb-refl}
 use lib.ListN.{getD, length}
 use Rattle.model.specs.Sets.{Doses, sum}
 use Rattle.model.specs.Lists.{All, Pairs, total}
-use Rattle.model.specs.Records.{read, recordAt}
+use Rattle.model.specs.Records.{recordSize, read, recordAt}
 use Rattle.model.specs.Orders.{Order}
 use Rattle.model.specs.Classes.{Classes, remaining}
 use Rattle.model.specs.Intervals.{fansPresent, settingOf}
@@ -76,9 +76,9 @@ same-class : {n d g t n′ d′ g′ t′ : ℕ} → n ≡ n′ → d ≡ d′ �
     → _≡_ {A = Class} (record { number = n; doses = d; weight = g; time = t }) (record { number = n′; doses = d′; weight = g′; time = t′ })
 same-class a b c e = rw (a, b, c, e)
 
-module _ (o : Order) (fit : Fit o) (h : OrderHeld) (sh : HeldFrom o h) (b : List ℕ) (p : ℕ) (N : List ℕ) (short : p ≤ length b / 32) (q : Passes h b p N) where
+module _ (o : Order) (fit : Fit o) (h : OrderHeld) (sh : HeldFrom o h) (b : List ℕ) (p : ℕ) (N : List ℕ) (short : p ≤ length b / recordSize) (q : Passes h b p N) where
   abbrev m : ℕ
-  m = length b / 32
+  m = length b / recordSize
 
   abbrev C : ℕ → Doses
   C = setsOf N

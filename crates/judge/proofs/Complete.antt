@@ -9,7 +9,7 @@ use lib.Dec.{T, eqb, eqb→eq}
 use lib.ListN.{List·getD-eq-default, getD, length}
 use Rattle.model.specs.Sets.{Doses, sum}
 use Rattle.model.specs.Lists.{total}
-use Rattle.model.specs.Records.{read, recordAt}
+use Rattle.model.specs.Records.{recordSize, read, recordAt}
 use Rattle.model.specs.Orders.{Order}
 use Rattle.model.specs.Classes.{P, Row, Setting, classP, free}
 use Rattle.model.specs.Intervals.{fansPresent, instantAt, instants, intervalCount, settingOf}
@@ -57,9 +57,9 @@ module _ (o : Order) (h : OrderHeld) (sh : HeldFrom o h) (s : Slot) (long : Slot
       (λ i r. omega (arith, instants-up o h sh (i + 1) j (omega arith) (omega (arith, sh .intervals)), sh .instants j (omega (arith, sh .intervals))))
       (omega (arith, sh .instants (j + 1) (omega (arith, sh .intervals))))
 
-module _ (o : Order) (fit : Fit o) (h : OrderHeld) (sh : HeldFrom o h) (b : List ℕ) (p : ℕ) (N : List ℕ) (lead : Leads b p) (num : ClassNumbers b p (length b / 32) N) (st : Stands o b) where
+module _ (o : Order) (fit : Fit o) (h : OrderHeld) (sh : HeldFrom o h) (b : List ℕ) (p : ℕ) (N : List ℕ) (lead : Leads b p) (num : ClassNumbers b p (length b / recordSize) N) (st : Stands o b) where
   abbrev m : ℕ
-  m = length b / 32
+  m = length b / recordSize
 
   abbrev q : ℕ
   q = st .count
@@ -79,7 +79,7 @@ module _ (o : Order) (fit : Fit o) (h : OrderHeld) (sh : HeldFrom o h) (b : List
   classes-long : length cs ≡ q
   classes-long = length-singles q (classAt o q D)
 
-  whole : length b % 32 ≡ 0
+  whole : length b % recordSize ≡ 0
   whole = read-rows b (planOf cs (st .slots)) (st .records) .0
 
   long-enough : q + length (st .slots) ≡ m

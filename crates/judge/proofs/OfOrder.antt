@@ -8,7 +8,7 @@ use borrow.Author.Tests.{eq-eqb, ne-eqb}
 use lib.Dec.{T, ltb→lt, lt→ltb}
 use lib.ListN.{length}
 use Rattle.model.specs.Sets.{Doses}
-use Rattle.model.specs.Records.{read, refused}
+use Rattle.model.specs.Records.{recordSize, read, refused}
 use Rattle.model.specs.Orders.{readOrder}
 use Rattle.model.specs.Orders as model
 use Rattle.model.specs.Intervals.{fansPresent, settingOf}
@@ -54,7 +54,7 @@ module _ (o : Order) where
 -- ---- the tests tell whether plan bytes stand, and the first class
 
 module _ (o : model.Order) (fit : Fit o) (h : OrderHeld) (sh : HeldFrom o h) (plan : List ℕ) (p : ℕ) (numbers : List ℕ) where
-  leads : p ≤ length plan / 32 → Passes h plan p numbers → Leader o plan p numbers
+  leads : p ≤ length plan / recordSize → Passes h plan p numbers → Leader o plan p numbers
   unfolding remaining free
   leads short q =
       let c = passes-classes o fit h sh plan p numbers short q in

@@ -10,7 +10,7 @@ use borrow.Author.Tests.{eq-eqb, eqb-true}
 use lib.Dec.{eqb, eqb→eq}
 use lib.ListN.{List·getD-append, List·getD-map, getD, length, length-append, length-map}
 use lib.Seq.{getD-append-add}
-use Rattle.model.specs.Records.{blankAt, classParts, pick, read, readAll, readFrom, recordAt, refused, slotParts}
+use Rattle.model.specs.Records.{recordSize, blankAt, classParts, pick, read, readAll, readFrom, recordAt, refused, slotParts}
 use Rattle.model.specs.Lists.{gather}
 use Rattle.model.specs.Plans.{Class, PlanRecord, Slot, classOf, classRecord, planOf, planRecordOf, planRecords, slotOf, slotRecord}
 use Rattle.model.proofs.Lists.{length-singles}
@@ -75,10 +75,10 @@ module _ (b : List ℕ) where
       add-suc-left i k = omega arith
 
   -- bytes are read as the records that their rows say
-  pub rows-read : (rs : List PlanRecord) → length b % 32 ≡ 0 → length rs ≡ length b / 32
+  pub rows-read : (rs : List PlanRecord) → length b % recordSize ≡ 0 → length rs ≡ length b / recordSize
       → ((k : ℕ) → k < length rs → planRecordOf (recordAt b k) k ≡ read (getD rs k noRecord)) → planRecords b ≡ read rs
   unfolding planRecords
-  rows-read rs w e h = rw (eq-eqb (length b % 32) 0 w, ← e) (rows-from rs 0 h′)
+  rows-read rs w e h = rw (eq-eqb (length b % recordSize) 0 w, ← e) (rows-from rs 0 h′)
     where
       h′ : (k : ℕ) → k < length rs → planRecordOf (recordAt b (0 + k)) (0 + k) ≡ read (getD rs k noRecord)
       h′ k l = let z : 0 + k ≡ k = omega arith in rw z (h k l)
@@ -105,11 +105,11 @@ module _ (b : List ℕ) where
 
   -- and the other way
   pub read-rows : (rs : List PlanRecord) → planRecords b ≡ read rs
-      → (length b % 32 ≡ 0) × (length rs ≡ length b / 32) × ((k : ℕ) → k < length rs → planRecordOf (recordAt b k) k ≡ read (getD rs k noRecord))
+      → (length b % recordSize ≡ 0) × (length rs ≡ length b / recordSize) × ((k : ℕ) → k < length rs → planRecordOf (recordAt b k) k ≡ read (getD rs k noRecord))
   unfolding planRecords
   read-rows rs e =
-      let x = passed (eqb (length b % 32) 0) (readAll planRecordOf b) 10 0 rs e in
-      let y = from-rows (length b / 32) 0 rs (x .1) in
+      let x = passed (eqb (length b % recordSize) 0) (readAll planRecordOf b) 10 0 rs e in
+      let y = from-rows (length b / recordSize) 0 rs (x .1) in
       (eqb→eq _ _ (x .0), y .0, λ k l. let z : 0 + k ≡ k = omega arith in rw z at (y .1 k (omega (arith, y .0))))
 
 -- ---- classes, then slots

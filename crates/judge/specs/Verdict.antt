@@ -5,6 +5,7 @@ use mathlib.Core.List.{List}
 use Prim.Native.Nat.{ℕ, _/_, _≤_, _<_}
 use lib.Dec.{T}
 use lib.ListN.{length}
+use Rattle.model.specs.Records.{recordSize}
 use Rattle.model.specs.Sets.{Doses}
 use Rattle.model.specs.Orders.{Order}
 use Rattle.model.specs.Classes.{W, P, setNumber}
@@ -49,7 +50,7 @@ pub data Against (o : Order) (other : Judged) : Judged → Type 0 where
 
 -- the first of the p classes whose doses have these numbers, as the plan's first record has it
 pub record Leader (o : Order) (plan : List ℕ) (p : ℕ) (numbers : List ℕ) : Type 0 where
-  pub short : p ≤ length plan / 32
+  pub short : p ≤ length plan / recordSize
   pub none : p ≡ 0 → (A : Doses) → FirstClass o A → ⊥
   pub first : 0 < p → FirstClass o (setsOf numbers 0)
   pub weight : 0 < p → classIn plan 0 .weight ≡ W (settingOf o) (setsOf numbers 0)

@@ -9,7 +9,7 @@ use lib.Dec.{eqb}
 use lib.ListN.{length, getD, take, drop, length-append, length-map, length-drop}
 use lib.Seq.{take-append-le, drop-append-le}
 use Rattle.model.specs.Lists.{gather}
-use Rattle.model.specs.Records.{pick, Reading, read, refused, andThen, classKind, slotKind, blankAt, classParts, slotParts, recordAt, readFrom, readAll}
+use Rattle.model.specs.Records.{recordSize, pick, Reading, read, refused, andThen, classKind, slotKind, blankAt, classParts, slotParts, recordAt, readFrom, readAll}
 use Rattle.model.specs.Plans.{Class, Slot, PlanRecord, classRecord, slotRecord, classOf, slotOf, planOf, planRecordOf, planRecords}
 use Rattle.lines.specs.Text.{classText, slotText, totalText, recordText, planText, saidText, saidLines}
 
@@ -69,23 +69,23 @@ module _ (plan : List ℕ) where
       go (refused number place) others g later q = never q
 
   -- a record that lies whole in front of other bytes
-  record-in-front : (rest : List ℕ) (k : ℕ) → 32 * k + 32 ≤ length plan → recordAt (plan ++ rest) k ≡ recordAt plan k
+  record-in-front : (rest : List ℕ) (k : ℕ) → recordSize * k + recordSize ≤ length plan → recordAt (plan ++ rest) k ≡ recordAt plan k
   record-in-front rest k h =
-      ap (take 32) (drop-append-le (32 * k) plan rest (omega arith))
-      ∙ take-append-le 32 (drop (32 * k) plan) rest (omega (arith, length-drop (32 * k) plan))
+      ap (take recordSize) (drop-append-le (recordSize * k) plan rest (omega arith))
+      ∙ take-append-le recordSize (drop (recordSize * k) plan) rest (omega (arith, length-drop (recordSize * k) plan))
 
   all-said : (rest : List ℕ) (rs : List PlanRecord) → planRecords plan ≡ read rs
-      → Said (length plan / 32) (λ k. recordText (recordAt (plan ++ rest) k)) rs
+      → Said (length plan / recordSize) (λ k. recordText (recordAt (plan ++ rest) k)) rs
   unfolding planRecords
-  all-said rest rs e = go (eqb (length plan % 32) 0) e
+  all-said rest rs e = go (eqb (length plan % recordSize) 0) e
     where
       same : (k : ℕ) → k ≡ 0 + k
       same k = omega arith
 
       go : (even : Bool) → pick even (readAll planRecordOf plan) (refused 10 0) ≡ read rs
-          → Said (length plan / 32) (λ k. recordText (recordAt (plan ++ rest) k)) rs
+          → Said (length plan / recordSize) (λ k. recordText (recordAt (plan ++ rest) k)) rs
       go true q =
-          from (length plan / 32) 0 (λ k. recordText (recordAt (plan ++ rest) k)) rs
+          from (length plan / recordSize) 0 (λ k. recordText (recordAt (plan ++ rest) k)) rs
           (λ k l. ap recordText (record-in-front rest k (omega arith)) ∙ ap (λ (j : ℕ). recordText (recordAt plan j)) (same k)) q
       go false q = never q
 
@@ -102,6 +102,6 @@ pub plan-said : (plan rest : List ℕ) (cs : List Class) (ss : List Slot) → pl
 unfolding planText
 plan-said plan rest cs ss e =
     let s = all-said plan rest (planOf cs ss) e in
-    let n : length cs + length ss ≡ length plan / 32 =
+    let n : length cs + length ss ≡ length plan / recordSize =
     omega (arith, s .count, length-append (map classRecord cs) (map slotRecord ss), length-map cs classRecord, length-map ss slotRecord) in
     rw (n, s .lines, said-append (map classRecord cs) (map slotRecord ss))

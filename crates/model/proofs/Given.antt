@@ -12,7 +12,7 @@ use lib.Ieee.Bits.{is-false, is-true}
 use lib.ListN.{length, getD, length-append, List·getD-append}
 use lib.Seq.{getD-append-seam}
 use Rattle.model.specs.Limits.{mostDoses, orderRoom}
-use Rattle.model.specs.Records.{pick, Reading, read, refused, andThen, fansParts, doseParts, blankAt, recordAt, readAll}
+use Rattle.model.specs.Records.{recordSize, pick, Reading, read, refused, andThen, fansParts, doseParts, blankAt, recordAt, readAll}
 use Rattle.model.specs.Orders.{Dose, noDose, Entry, fansEntry, doseEntry, fansOf, doseOf, fansFit, doseFits, checked, entryOf, fansIn, dosesIn, apart, clash, clashesAny, noClash, orderIn, restOf, orderOf, readOrder}
 use Rattle.model.proofs.Sums.{last}
 use Rattle.model.proofs.Fractions.{compare≤}
@@ -46,13 +46,13 @@ pub data RecordRow (r : List ℕ) : ℕ → Type 0 where
 
 -- 2 is passed
 pub record Sized (order : List ℕ) : Type 0 where
-  pub whole : length order % 32 ≡ 0
+  pub whole : length order % recordSize ≡ 0
   pub short : length order ≤ orderRoom
 
 -- record i is there, and all before it are read: "record by record"
 pub record Reached (order : List ℕ) (i : ℕ) : Type 0 where
   pub sized : Sized order
-  pub there : i < length order / 32
+  pub there : i < length order / recordSize
   pub earlier : (k : ℕ) → k < i → (e : Entry) × (entryOf (recordAt order k) k ≡ read e)
 
 -- what stands for a record past the last
@@ -62,7 +62,7 @@ noEntry = doseEntry noDose
 -- all records are read: record k says what entry k is
 pub record Entries (order : List ℕ) (es : List Entry) : Type 0 where
   pub sized : Sized order
-  pub count : length es ≡ length order / 32
+  pub count : length es ≡ length order / recordSize
   pub each : (k : ℕ) → k < length es → entryOf (recordAt order k) k ≡ read (getD es k noEntry)
 
 -- "two doses of one bay with overlapping windows": each opens before the other has ended and rested; with no rest "touching is allowed"
@@ -85,7 +85,7 @@ pub record OverlapsEarlier (rest : ℕ) (es : List Entry) (i : ℕ) : Type 0 whe
 -- the table: number and place
 pub data Given (order : List ℕ) : ℕ → ℕ → Type 0 where
   -- 2 "order length no multiple of 32, or over 1,600"
-  wrong-length : (length order % 32 ≢ 0) ⊎ (orderRoom < length order) → Given order 2 0
+  wrong-length : (length order % recordSize ≢ 0) ⊎ (orderRoom < length order) → Given order 2 0
   -- 3, 4, 5: "Place is the record's index"
   wrong-record : (number i : ℕ) → Reached order i → RecordRow (recordAt order i) number → Given order number i
   -- 6 "F records not exactly one"
@@ -277,7 +277,7 @@ module _ (rest : ℕ) where
 
 module _ (order : List ℕ) where
   abbrev sizedTest : Bool
-  sizedTest = eqb (length order % 32) 0 && leb (length order) orderRoom
+  sizedTest = eqb (length order % recordSize) 0 && leb (length order) orderRoom
 
   from-zero : (k : ℕ) → entryOf (recordAt order k) k ≡ entryOf (recordAt order (0 + k)) (0 + k)
   from-zero k = ap (λ (h : ℕ). entryOf (recordAt order h) h) (sym (zero-add k))
@@ -293,22 +293,22 @@ module _ (order : List ℕ) where
       (λ d. says-then _ (Given order) (λ ds. Unit {0}) (noClash (restOf (orderIn es)) [] 0 es) _ (overlaps es g (eqb→eq _ _ f) (leb→le _ _ d) (noClash (restOf (orderIn es)) [] 0 es) (first-clash (restOf (orderIn es)) es)) (λ ds u. tt))
       (λ d. many-doses es g (eqb→eq _ _ f) (nleb→lt _ _ d)))
       (λ f. not-one-fans es g (λ e. T-not one f (rw e tt)))))
-      (λ t. wrong-length (unsized (eqb (length order % 32) 0) refl t))
+      (λ t. wrong-length (unsized (eqb (length order % recordSize) 0) refl t))
     where
       sized : T sizedTest → Sized order
       sized t = record {
-        whole = eqb→eq _ _ (and-left (eqb (length order % 32) 0) (leb (length order) orderRoom) t);
-        short = leb→le _ _ (and-right (eqb (length order % 32) 0) (leb (length order) orderRoom) t);
+        whole = eqb→eq _ _ (and-left (eqb (length order % recordSize) 0) (leb (length order) orderRoom) t);
+        short = leb→le _ _ (and-right (eqb (length order % recordSize) 0) (leb (length order) orderRoom) t);
       }
 
-      unsized : (b : Bool) → eqb (length order % 32) 0 ≡ b → T (not (b && leb (length order) orderRoom)) → (length order % 32 ≢ 0) ⊎ (orderRoom < length order)
+      unsized : (b : Bool) → eqb (length order % recordSize) 0 ≡ b → T (not (b && leb (length order) orderRoom)) → (length order % recordSize ≢ 0) ⊎ (orderRoom < length order)
       unsized true e t = inr (nleb→lt _ _ t)
       unsized false e t = inl (eqb-false _ _ e)
 
       records : Sized order → Says (readAll entryOf order) (Entries order) (Given order)
-      records z = go (readAll entryOf order) (walk-says entryOf order noEntry (length order / 32) 0)
+      records z = go (readAll entryOf order) (walk-says entryOf order noEntry (length order / recordSize) 0)
         where
-          go : (x : Reading (List Entry)) → Says x (Listed entryOf order noEntry 0 (length order / 32)) (First entryOf order noEntry 0 (length order / 32))
+          go : (x : Reading (List Entry)) → Says x (Listed entryOf order noEntry 0 (length order / recordSize)) (First entryOf order noEntry 0 (length order / recordSize))
               → Says x (Entries order) (Given order)
           go (read es) s = record { sized = z; count = s .0; each = λ k l. from-zero k ∙ s .1 k (omega (arith, s .0)) }
           go (refused number place) s =
@@ -327,21 +327,21 @@ module _ (order : List ℕ) where
   -- 2 is passed
   past-length : Sized order → readOrder order ≡ andThen (readAll entryOf order) orderOf
   unfolding readOrder
-  past-length z = rw (eq-eqb (length order % 32) 0 (z .whole), le-leb (length order) orderRoom (z .short))
+  past-length z = rw (eq-eqb (length order % recordSize) 0 (z .whole), le-leb (length order) orderRoom (z .short))
 
   -- 3, 4, 5 are passed
   past-records : (es : List Entry) → Entries order es → readOrder order ≡ orderOf es
   past-records es g =
       past-length (g .sized)
       ∙ ap (λ (x : Reading (List Entry)). andThen x orderOf)
-      (walk-read entryOf order noEntry (length order / 32) 0 es (g .count, λ k l. sym (from-zero k) ∙ g .each k (omega (arith, g .count))))
+      (walk-read entryOf order noEntry (length order / recordSize) 0 es (g .count, λ k l. sym (from-zero k) ∙ g .each k (omega (arith, g .count))))
 
   -- a row gives its number and place
   row-given : (number place : ℕ) → Given order number place → readOrder order ≡ refused number place
   unfolding readOrder orderOf
   row-given number place (wrong-length w) = elim w [
-    | inl h ↦ rw (ne-eqb (length order % 32) 0 h)
-    | inr h ↦ unsized (eqb (length order % 32) 0) (lt-leb (length order) orderRoom h)
+    | inl h ↦ rw (ne-eqb (length order % recordSize) 0 h)
+    | inr h ↦ unsized (eqb (length order % recordSize) 0) (lt-leb (length order) orderRoom h)
   ]
     where
       unsized : (b : Bool) → leb (length order) orderRoom ≡ false → pick (b && leb (length order) orderRoom) (andThen (readAll entryOf order) orderOf) (refused 2 0) ≡ refused 2 0
@@ -350,7 +350,7 @@ module _ (order : List ℕ) where
   row-given number place (wrong-record n i r row) =
       past-length (r .sized)
       ∙ ap (λ (x : Reading (List Entry)). andThen x orderOf)
-      (walk-refused entryOf order noEntry (length order / 32) 0 n i (i, r .there, λ k l. let e = r .earlier k l in (e .0, sym (from-zero k) ∙ e .1), sym (from-zero i) ∙ row-refuses (recordAt order i) i n row))
+      (walk-refused entryOf order noEntry (length order / recordSize) 0 n i (i, r .there, λ k l. let e = r .earlier k l in (e .0, sym (from-zero k) ∙ e .1), sym (from-zero i) ∙ row-refuses (recordAt order i) i n row))
   row-given number place (not-one-fans es g h) = past-records es g ∙ rw (ne-eqb (length (fansIn es)) 1 h)
   row-given number place (many-doses es g one h) = past-records es g ∙ rw (one, lt-leb (length (dosesIn es)) mostDoses h)
   row-given number place (overlapping es g one few i o none) = past-records es g ∙ rw (one, le-leb (length (dosesIn es)) mostDoses few, clash-refuses (restOf (orderIn es)) es i o none)

@@ -9,7 +9,7 @@ use lib.Dec.{T, eqb, leb, leb→le, eqb→eq, eqb-refl}
 use lib.ListN.{length, getD}
 use Rattle.model.specs.Limits.{lastRelease, mostBay, mostDoses, mostFans, mostGrams, mostTop, orderRoom, week}
 use Rattle.model.specs.Lists.{All, none, also, Pairs, lone, then}
-use Rattle.model.specs.Records.{pick, within, Reading, read, refused, andThen, fansParts, doseParts, blankAt, recordAt, readFrom, readAll}
+use Rattle.model.specs.Records.{recordSize, pick, within, Reading, read, refused, andThen, fansParts, doseParts, blankAt, recordAt, readFrom, readAll}
 use Rattle.model.specs.Orders.{Fans, Dose, Order, noDose, doseAt, Entry, fansEntry, doseEntry, fansOf, doseOf, fansFit, doseFits, checked, entryOf, fansIn, dosesIn, apart, clash, clashesAny, noClash, orderWith, orderIn, restOf, orderOf, readOrder}
 use Rattle.model.proofs.Sets.{and-left, and-right, or-elim}
 use Rattle.model.proofs.Lists.{All-at, Pairs-append, Pairs-at}
@@ -214,6 +214,6 @@ entries-fit es o all e =
 pub read-fits : (bytes : List ℕ) (o : Order) → readOrder bytes ≡ read o → Fit o
 unfolding readOrder
 read-fits bytes o e =
-    let a = passed (eqb (length bytes % 32) 0 && leb (length bytes) orderRoom) _ 2 0 o e in
+    let a = passed (eqb (length bytes % recordSize) 0 && leb (length bytes) orderRoom) _ 2 0 o e in
     let b = went-on (readAll entryOf bytes) orderOf o (a .1) in
-    entries-fit (b .0) o (all-read EntryFits entryOf entry-fits bytes 0 (length bytes / 32) (b .0) (b .1)) (b .2)
+    entries-fit (b .0) o (all-read EntryFits entryOf entry-fits bytes 0 (length bytes / recordSize) (b .0) (b .1)) (b .2)

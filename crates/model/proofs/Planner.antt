@@ -7,6 +7,7 @@ use native.Mathlib.Nat.{mul-le-mul-left}
 use native.Mathlib.Numerals.{add-one}
 use native.Mathlib.Omega.{arith}
 use lib.ListN.{length}
+use Rattle.model.specs.Records.{recordSize}
 use Rattle.model.specs.Limits.{mostWeight, mostFanTime, mostFans, mostGrams, planRoom}
 use Rattle.model.specs.Sets.{Doses, sum, weight}
 use Rattle.model.specs.Orders.{Order}
@@ -76,7 +77,7 @@ module _ (o : Order) (fit : Fit o) (p : ℕ) (C : ℕ → Doses) where
 
     module _ (x : ℕ → ℕ → ℕ → ℕ) (v : ValidShares o p C x) where
       -- the planner's plan has a record for each class and each slot
-      pub plan-length : length (planBytes o p C x) ≡ 32 * (p + length (slotsOf o p C x))
+      pub plan-length : length (planBytes o p C x) ≡ recordSize * (p + length (slotsOf o p C x))
       plan-length = omega (arith, length-plan (classesOf o p C) (slotsOf o p C x), length-singles p (classAt o p C))
 
       -- and goes into the plan buffer

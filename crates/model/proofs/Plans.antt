@@ -4,7 +4,7 @@ use mathlib.Core.List.{List, [], _∷_, _++_, append-assoc, map}
 use Prim.Native.Nat.{ℕ, _+_, _*_}
 use native.Mathlib.Omega.{arith}
 use lib.ListN.{length, length-append, length-map}
-use Rattle.model.specs.Records.{classKind, classParts, read, slotKind, slotParts}
+use Rattle.model.specs.Records.{recordSize, classKind, classParts, read, slotKind, slotParts}
 use Rattle.model.specs.Plans.{Class, PlanRecord, Slot, classRecord, planOf, planRecordBytes, planRecords, recordsBytes, slotRecord, slotsIn, slotsRead}
 use Rattle.model.proofs.Records.{length-record, sizeOf}
 
@@ -17,13 +17,13 @@ abbrev pub slotFields : ℕ → Slot → List ℕ
 slotFields kind s = kind ∷ s .fan ∷ s .dose ∷ s .startTick ∷ s .startPart ∷ s .endTick ∷ s .endPart ∷ s .weight ∷ s .time ∷ s .class ∷ []
 
 -- a record is 32 bytes
-pub length-one : (r : PlanRecord) → length (planRecordBytes r) ≡ 32
+pub length-one : (r : PlanRecord) → length (planRecordBytes r) ≡ recordSize
 unfolding planRecordBytes sizeOf
 length-one (classRecord c) = length-record classParts (classFields classKind c)
 length-one (slotRecord s) = length-record slotParts (slotFields slotKind s)
 
 -- n records are 32 × n bytes
-pub length-records : (rs : List PlanRecord) → length (recordsBytes rs) ≡ 32 * length rs
+pub length-records : (rs : List PlanRecord) → length (recordsBytes rs) ≡ recordSize * length rs
 unfolding recordsBytes
 length-records [] = refl
 length-records (r ∷ rs) = omega (arith, length-append (planRecordBytes r) (recordsBytes rs), length-one r, length-records rs)
@@ -46,7 +46,7 @@ pub slots-read : (b : List ℕ) (classes : List Class) (slots : List Slot) → p
 slots-read b classes slots e = rw e (slots-planned classes slots)
 
 -- a plan has a record for each class and each slot
-pub length-plan : (classes : List Class) (slots : List Slot) → length (recordsBytes (planOf classes slots)) ≡ 32 * (length classes + length slots)
+pub length-plan : (classes : List Class) (slots : List Slot) → length (recordsBytes (planOf classes slots)) ≡ recordSize * (length classes + length slots)
 length-plan classes slots =
     omega (
       arith,

@@ -10,7 +10,7 @@ use borrow.Author.Tests.{leb-true, leb-false}
 use lib.Dec.{eqb, leb}
 use lib.ListN.{length, getD, length-append}
 use Rattle.model.specs.Limits.{mostDoses, orderRoom}
-use Rattle.model.specs.Records.{pick, Reading, read, refused, andThen, blankAt, fansParts, doseParts, recordAt, readFrom}
+use Rattle.model.specs.Records.{recordSize, pick, Reading, read, refused, andThen, blankAt, fansParts, doseParts, recordAt, readFrom}
 use Rattle.model.specs.Orders.{fansEntry, doseEntry, fansOf, doseOf, fansFit, doseFits, checked, entryOf, fansIn, dosesIn, noClash, clashesAny, orderWith, orderIn, restOf, orderOf, readOrder}
 use Rattle.model.specs.Orders as orders
 use Rattle.order.proofs.Cases.{picked}
@@ -91,7 +91,7 @@ each-order es =
 -- an order that was read has at most 24 doses
 pub each-read : (bytes : List ℕ) → Each (λ (o : orders.Order). length (o .doses) ≤ mostDoses) (readOrder bytes)
 unfolding readOrder
-each-read bytes = each-pick (eqb (length bytes % 32) 0 && leb (length bytes) orderRoom) (each-then orderOf (each-from bytes 0 _) (λ es p. each-order es)) refuses
+each-read bytes = each-pick (eqb (length bytes % recordSize) 0 && leb (length bytes) orderRoom) (each-then orderOf (each-from bytes 0 _) (λ es p. each-order es)) refuses
 
 -- ---- one record
 
@@ -169,12 +169,12 @@ empty e = rw e (refl, refl)
 -- the first k of n records are gathered in s; s and the records left come to what all come to
 pub record Walking (bytes : List ℕ) (n k : ℕ) (s : Gathered) : Type 0 where
   pub within : k ≤ n
-  pub whole : n ≡ length bytes / 32
+  pub whole : n ≡ length bytes / recordSize
   pub heads : s .heads ≤ k
   pub doses : s .doses ≤ k
   pub comes : walkedFrom (readFrom entryOf bytes k (n - k)) k s ≡ walkedFrom (readFrom entryOf bytes 0 n) 0 noRecords
 
-pub walking-none : {bytes : List ℕ} {n : ℕ} {s : Gathered} → n ≡ length bytes / 32 → s ≡ noRecords → Walking bytes n 0 s
+pub walking-none : {bytes : List ℕ} {n : ℕ} {s : Gathered} → n ≡ length bytes / recordSize → s ≡ noRecords → Walking bytes n 0 s
 walking-none {n = n} e q =
     let none = empty q in
     record { within = omega arith; whole = e; heads = omega (arith, none .0); doses = omega (arith, none .1); comes = rw (sub-zero n, q) refl }

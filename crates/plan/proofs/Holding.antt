@@ -4,6 +4,7 @@ use mathlib.Core.List.{List}
 use Prim.Native.Nat.{ℕ, _+_, _*_, _≤_, _<_}
 use native.Mathlib.Omega.{arith}
 use lib.ListN.{length}
+use Rattle.model.specs.Records.{recordSize}
 use Rattle.model.specs.Limits.{planRoom}
 use Rattle.model.specs.Sets.{Doses}
 use Rattle.model.specs.Orders.{Order}
@@ -91,5 +92,5 @@ module _ (o : Order) (t : Tables) (x : List ℕ) (m : List (List ℕ)) (h : Hold
     }
 
     -- and the records have room
-    pub roomy : {size : ℕ} → planRoom ≤ size → 32 * (t .classes + length (tableSlots (tableFrom t x m))) ≤ size
+    pub roomy : {size : ℕ} → planRoom ≤ size → recordSize * (t .classes + length (tableSlots (tableFrom t x m))) ≤ size
     roomy l = omega (arith, few, fit .few, ap length held-slots, few-slots o fit (t .classes) C (h .classes) (shareAt t x) (h .valid))

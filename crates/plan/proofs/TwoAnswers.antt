@@ -6,6 +6,7 @@ use Prim.Native.Nat.{ℕ, _+_, _*_, _<_}
 use native.Mathlib.Omega.{arith}
 use lib.ListN.{drop, length}
 use lib.Seq.{drop-at}
+use Rattle.model.specs.Records.{recordSize}
 use Rattle.model.specs.Sets.{Doses}
 use Rattle.model.specs.Orders.{Order}
 use Rattle.model.specs.Classes.{Classes}
@@ -20,7 +21,7 @@ use Rattle.plan.specs.Answered.{asPlanned}
 
 -- "success changes only the plan's own records", and a refusal counts none: past the records counted each byte is as it was
 pub rest-unchanged : {order before after : List ℕ} {r : Planned} → Plans order before r after
-    → drop (32 * (r .classes + r .slots)) after ≡ drop (32 * (r .classes + r .slots)) before
+    → drop (recordSize * (r .classes + r .slots)) after ≡ drop (recordSize * (r .classes + r .slots)) before
 rest-unchanged (no-room small) = refl
 rest-unchanged (refuses l a h) = refl
 rest-unchanged {order} {before} (plans l o a p C c x v) =

@@ -6,6 +6,7 @@ use native.Mathlib.Nat.{zero-add}
 use native.Mathlib.Omega.{arith}
 use lib.ListN.{drop, length, length-map}
 use lib.Seq.{sets-eq}
+use Rattle.model.specs.Records.{recordSize}
 use Rattle.records.specs.Written.{written}
 use Rattle.records.proofs.Laws.{join}
 use Rattle.model.specs.Lists.{gather}
@@ -26,7 +27,7 @@ pub classes-none : (t : Tables) (b : List ℕ) → Wrote classRecord (gather 0 (
 classes-none t b = gather-none (one t) b 0
 
 pub classes-more : (t : Tables) {b₀ b b′ : List ℕ} {i : ℕ} {c : Class} → Wrote classRecord (gather i (one t)) b₀ 0 b i → c ≡ classFrom t i
-    → b′ ≡ written b (32 * i) (planRecordBytes (classRecord c)) → Wrote classRecord (gather (i + 1) (one t)) b₀ 0 b′ (i + 1)
+    → b′ ≡ written b (recordSize * i) (planRecordBytes (classRecord c)) → Wrote classRecord (gather (i + 1) (one t)) b₀ 0 b′ (i + 1)
 classes-more t {i = i} h e f = gather-more (one t) i h (wrote-one e f)
 
 -- the loop has come to the end
@@ -44,7 +45,7 @@ unfolding written
 written-front vs l h = rw zero-add at (sets-eq vs l 0 (omega arith))
 
 pub plan-written : {classes : List Class} {slots : List Slot} {b b₁ b₂ : List ℕ} {q r : ℕ} → Wrote classRecord classes b 0 b₁ q → Wrote slotRecord slots b₁ q b₂ r
-    → 32 * (length classes + length slots) ≤ length b → b₂ ≡ overwritten b (recordsBytes (planOf classes slots))
+    → recordSize * (length classes + length slots) ≤ length b → b₂ ≡ overwritten b (recordsBytes (planOf classes slots))
 plan-written {classes} {slots} {b} {b₂ = b₂} h g room =
     let all : b₂ ≡ written b 0 (recordsBytes (planOf classes slots)) =
     join b (recordsBytes (map classRecord classes)) (recordsBytes (map slotRecord slots)) 0 (h .now) (g .now)

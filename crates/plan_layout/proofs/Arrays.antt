@@ -8,6 +8,7 @@ use native.Mathlib.Omega.{arith}
 use borrow.Author.Tests.{eq-eqb, ne-eqb}
 use lib.Dec.{eqb}
 use lib.ListN.{length, getD}
+use Rattle.model.specs.Records.{recordSize}
 use Rattle.model.specs.Limits.{mostFans, mostIntervals}
 use Rattle.model.specs.Sets.{sum, on}
 use Rattle.model.specs.Lists.{gather}
@@ -77,8 +78,8 @@ module _ (t : Tables) (x : List ℕ) (m : List (List ℕ)) where
 
 module _ {t : Tables} {x : List ℕ} {m : List (List ℕ)} (h : Filled t x m) where
   -- room for an interval
-  pub room-for : {j r at size size′ : ℕ} {b₀ b : List ℕ} → j < t .intervals → 32 * (r + length (tableSlots (tableFrom t x m))) ≤ size → size′ ≡ size
-      → Wrote slotRecord (gather j (intervalSlots (tableFrom t x m))) b₀ r b at → 32 * (at + length (intervalSlots (tableFrom t x m) j)) ≤ size′
+  pub room-for : {j r at size size′ : ℕ} {b₀ b : List ℕ} → j < t .intervals → recordSize * (r + length (tableSlots (tableFrom t x m))) ≤ size → size′ ≡ size
+      → Wrote slotRecord (gather j (intervalSlots (tableFrom t x m))) b₀ r b at → recordSize * (at + length (intervalSlots (tableFrom t x m) j)) ≤ size′
   room-for {j} p s e w = omega (arith, ap length (table-is t x m), gather-fits (intervalSlots (tableFrom t x m)) (t .intervals) j p, w .next)
 
   module _ {j : ℕ} {b₀ b : List ℕ} {r at below i : ℕ} (g : Rising t x m j b₀ r b at below i) (p : j < t .intervals) (q : i < t .classes) where
@@ -87,7 +88,7 @@ module _ {t : Tables} {x : List ℕ} {m : List (List ℕ)} (h : Filled t x m) wh
     below-at = omega (arith, g .below-is, sum-before (t .classes) (λ i. fansAt m i j) i q, h .room j p)
 
     -- room for a class
-    pub rooms-at : {size size′ : ℕ} {l : Lane} → 32 * (r + length (intervalSlots (tableFrom t x m) j)) ≤ size → size′ ≡ size → l ≡ laneAt t i j below
+    pub rooms-at : {size size′ : ℕ} {l : Lane} → recordSize * (r + length (intervalSlots (tableFrom t x m) j)) ≤ size → size′ ≡ size → l ≡ laneAt t i j below
         → Rooms l (λ k. shareAt t x i k j) (t .doses) at size′
     unfolding tableFrom
     rooms-at s e f = rw (e, lane-is t x m g f) (record {

@@ -5,6 +5,7 @@ use Prim.Native.Nat.{ℕ, _+_, _*_, _≤_, _<_}
 use native.Mathlib.Numerals.{add-one}
 use native.Mathlib.Omega.{arith}
 use lib.ListN.{length, length-append, length-map}
+use Rattle.model.specs.Records.{recordSize}
 use Rattle.records.specs.Written.{written}
 use Rattle.records.proofs.Laws.{join, length-written, written-none}
 use Rattle.model.specs.Lists.{gather}
@@ -20,26 +21,26 @@ module _ {A : Type 0} {kind : A → PlanRecord} where
 
   -- the buffer is as long as before
   pub wrote-length : {l : List A} {b b′ : List ℕ} {r r′ : ℕ} → Wrote kind l b r b′ r′ → length b′ ≡ length b
-  wrote-length {l} {b} {r = r} h = ap length (h .now) ∙ length-written b (32 * r) (recordsBytes (map kind l))
+  wrote-length {l} {b} {r = r} h = ap length (h .now) ∙ length-written b (recordSize * r) (recordsBytes (map kind l))
 
   -- no record
   pub wrote-none : (b : List ℕ) (r : ℕ) → Wrote kind [] b r b r
   unfolding recordsBytes
-  wrote-none b r = record { next = omega arith; now = written-none b (32 * r) }
+  wrote-none b r = record { next = omega arith; now = written-none b (recordSize * r) }
 
   -- one
-  pub wrote-one : {a a′ : A} {b b′ : List ℕ} {r : ℕ} → a ≡ a′ → b′ ≡ written b (32 * r) (planRecordBytes (kind a)) → Wrote kind (a′ ∷ []) b r b′ (r + 1)
+  pub wrote-one : {a a′ : A} {b b′ : List ℕ} {r : ℕ} → a ≡ a′ → b′ ≡ written b (recordSize * r) (planRecordBytes (kind a)) → Wrote kind (a′ ∷ []) b r b′ (r + 1)
   unfolding recordsBytes
-  wrote-one {a} {a′} {b} {r = r} e f = record { next = refl; now = f ∙ ap (written b (32 * r)) (ap (λ (v : A). planRecordBytes (kind v)) e ∙ sym (append-nil (planRecordBytes (kind a′)))) }
+  wrote-one {a} {a′} {b} {r = r} e f = record { next = refl; now = f ∙ ap (written b (recordSize * r)) (ap (λ (v : A). planRecordBytes (kind v)) e ∙ sym (append-nil (planRecordBytes (kind a′)))) }
 
   -- some, then more behind them
   pub wrote-more : {p q : List A} {b b₁ b₂ : List ℕ} {r r₁ r₂ : ℕ} → Wrote kind p b r b₁ r₁ → Wrote kind q b₁ r₁ b₂ r₂ → Wrote kind (p ++ q) b r b₂ r₂
   wrote-more {p} {q} {b} {r = r} h g = record {
     next = omega (arith, h .next, g .next, length-append p q);
     now =
-        join b (recordsBytes (map kind p)) (recordsBytes (map kind q)) (32 * r) (h .now) (g .now)
+        join b (recordsBytes (map kind p)) (recordsBytes (map kind q)) (recordSize * r) (h .now) (g .now)
         (omega (arith, h .next, length-records (map kind p), length-map p kind))
-        ∙ ap (written b (32 * r)) (sym (ap recordsBytes (map-append kind p q) ∙ records-append (map kind p) (map kind q)));
+        ∙ ap (written b (recordSize * r)) (sym (ap recordsBytes (map-append kind p q) ∙ records-append (map kind p) (map kind q)));
   }
 
   -- lists that are gathered, one at a time

@@ -6,6 +6,7 @@ use native.Mathlib.Nat.{div-le-of-le-mul, mod-lt, mul-le-mul-right, mul-pos}
 use native.Mathlib.Numerals.{add-one}
 use native.Mathlib.Omega.{arith}
 use lib.ListN.{length, length-map}
+use Rattle.model.specs.Records.{recordSize}
 use Rattle.model.specs.Limits.{mostWeight, mostFans, week}
 use Rattle.records.specs.Written.{written}
 use Rattle.model.specs.Sets.{sum}
@@ -47,11 +48,11 @@ module _ {l : Lane} {k a x r size : ℕ} (h : Room l k a x r size) where
   }
 
   -- room for a share that is not cut
-  pub room-one : (x ≡ 0 → ⊥) → a % (l .len * l .weight) + x ≤ l .len * l .weight → 32 * r + 32 ≤ size
+  pub room-one : (x ≡ 0 → ⊥) → a % (l .len * l .weight) + x ≤ l .len * l .weight → recordSize * r + recordSize ≤ size
   room-one n q = omega (arith, h .room, ap length (cut-uncut (l .len * l .weight) k a x (omega arith) q))
 
   -- and for one that is
-  pub room-two : (x ≡ 0 → ⊥) → l .len * l .weight < a % (l .len * l .weight) + x → 32 * r + 64 ≤ size
+  pub room-two : (x ≡ 0 → ⊥) → l .len * l .weight < a % (l .len * l .weight) + x → recordSize * r + 64 ≤ size
   room-two n q = omega (arith, h .room, ap length (cut-two (l .len * l .weight) k a x (omega arith) q))
 
 module _ (l : Lane) (k a x r : ℕ) (b : List ℕ) where
@@ -63,14 +64,14 @@ module _ (l : Lane) (k a x r : ℕ) (b : List ℕ) where
   laid-none e = rw (cut-none (l .len * l .weight) k a x e) (wrote-none b r)
 
   pub laid-one : {b′ : List ℕ} {s : Slot} → (x ≡ 0 → ⊥) → a % (l .len * l .weight) + x ≤ l .len * l .weight → s ≡ pieceSlot l (uncut (l .len * l .weight) k a x)
-      → b′ ≡ written b (32 * r) (planRecordBytes (slotRecord s)) → Laid (r + 1) b′
+      → b′ ≡ written b (recordSize * r) (planRecordBytes (slotRecord s)) → Laid (r + 1) b′
   laid-one n q e f = rw (cut-uncut (l .len * l .weight) k a x (omega arith) q) (wrote-one e f)
 
   pub laid-two : {b₁ b′ : List ℕ} {s u : Slot} → (x ≡ 0 → ⊥) → l .len * l .weight < a % (l .len * l .weight) + x
       → s ≡ pieceSlot l (before (l .len * l .weight) k a x) → u ≡ pieceSlot l (behind (l .len * l .weight) k a x)
-      → b₁ ≡ written b (32 * r) (planRecordBytes (slotRecord s)) → b′ ≡ written b₁ (32 * r + 32) (planRecordBytes (slotRecord u)) → Laid (r + 2) b′
+      → b₁ ≡ written b (recordSize * r) (planRecordBytes (slotRecord s)) → b′ ≡ written b₁ (recordSize * r + recordSize) (planRecordBytes (slotRecord u)) → Laid (r + 2) b′
   laid-two {b₁} {b′} {s} {u} n q d e f g =
-      let second : b′ ≡ written b₁ (32 * (r + 1)) (planRecordBytes (slotRecord u)) = g ∙ ap (λ (at : ℕ). written b₁ at (planRecordBytes (slotRecord u))) (omega arith) in
+      let second : b′ ≡ written b₁ (recordSize * (r + 1)) (planRecordBytes (slotRecord u)) = g ∙ ap (λ (at : ℕ). written b₁ at (planRecordBytes (slotRecord u))) (omega arith) in
       let next : r + 1 + 1 ≡ r + 2 = omega arith in
       rw (cut-two (l .len * l .weight) k a x (omega arith) q, ← next) (wrote-more (wrote-one d f) (wrote-one e second))
 

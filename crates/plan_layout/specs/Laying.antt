@@ -3,6 +3,7 @@ use mathlib.Core.Path.{_≡_}
 use mathlib.Core.List.{List, map}
 use Prim.Native.Nat.{ℕ, _+_, _*_, _≤_, _<_}
 use lib.ListN.{getD, length}
+use Rattle.model.specs.Records.{recordSize}
 use Rattle.model.specs.Limits.{cells, mostWeight, mostDoses, mostFans, mostIntervals, week}
 use Rattle.records.specs.Written.{written}
 use Rattle.model.specs.Sets.{sum}
@@ -15,7 +16,7 @@ use Rattle.plan_layout.specs.Held.{fansAt, lenAt, shareAt}
 -- is as it was, and the next record is r′
 pub record Wrote {A : Type 0} (kind : A → PlanRecord) (l : List A) (b : List ℕ) (r : ℕ) (b′ : List ℕ) (r′ : ℕ) : Type 0 where
   pub next : r′ ≡ r + length l
-  pub now : b′ ≡ written b (32 * r) (recordsBytes (map kind l))
+  pub now : b′ ≡ written b (recordSize * r) (recordsBytes (map kind l))
 
 -- a class in an interval of the week, on fans up to the eighth
 pub record Ready (l : Lane) : Type 0 where
@@ -30,14 +31,14 @@ pub record Room (l : Lane) (k a x r size : ℕ) : Type 0 where
   pub ready : Ready l
   pub most : x ≤ l .len * l .weight
   pub end : a + x ≤ mostFans * (l .len * l .weight)
-  pub room : 32 * (r + length (cut (l .len * l .weight) k a x)) ≤ size
+  pub room : recordSize * (r + length (cut (l .len * l .weight) k a x)) ≤ size
 
 -- the same for the shares of n doses
 pub record Rooms (l : Lane) (x : ℕ → ℕ) (n r size : ℕ) : Type 0 where
   pub ready : Ready l
   pub most : (k : ℕ) → k < n → x k ≤ l .len * l .weight
   pub end : sum n x ≤ mostFans * (l .len * l .weight)
-  pub room : 32 * (r + length (laneSlots l x n)) ≤ size
+  pub room : recordSize * (r + length (laneSlots l x n)) ≤ size
 
 -- arrays that hold shares in a week and on at most 8 fans: "at most L × W units", "exactly its reserved fans × L × W"
 pub record Filled (t : Tables) (shares : List ℕ) (reserved : List (List ℕ)) : Type 0 where

@@ -5,7 +5,7 @@ use mathlib.Core.List.{List}
 use Prim.Native.Nat.{ℕ, _+_, _*_, _≤_}
 use native.Mathlib.Omega.{arith}
 use Rattle.model.specs.Limits.{planRoom}
-use Rattle.model.specs.Records.{pick}
+use Rattle.model.specs.Records.{recordSize, pick}
 use lib.Dec.{eqb}
 use lib.ListN.{length}
 use Rattle.model.specs.Answers.{Planned, Plans, no-room, refuses, plans}
@@ -17,7 +17,7 @@ use Rattle.lines.proofs.Records.{plan-text-length, refused-length}
 use Rattle.printer.specs.Prints.{answerText, Prints}
 
 -- "plan buffer under 47,392 bytes (24 classes and 1,457 slots)": no plan has more records
-pub few-records : {order before after : List ℕ} {r : Planned} → Plans order before r after → 32 * (r .classes + r .slots) ≤ planRoom
+pub few-records : {order before after : List ℕ} {r : Planned} → Plans order before r after → recordSize * (r .classes + r .slots) ≤ planRoom
 few-records (no-room small) = omega arith
 few-records (refuses l a refuse) = omega arith
 few-records {order} (plans l o a p C c x v) =

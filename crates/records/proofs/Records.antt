@@ -6,16 +6,16 @@ use Prim.Native.Nat.{ℕ, _+_, _*_, _-_, _≤_}
 use native.Mathlib.Omega.{arith}
 use lib.Dec.{eqb}
 use lib.ListN.{length, take, drop, length-take, length-drop}
-use Rattle.model.specs.Records.{Part, blankAt, recordAt}
+use Rattle.model.specs.Records.{recordSize, Part, blankAt, recordAt}
 use Rattle.records.specs.Plan.{kindAt}
 
 abbrev pub partAt : List ℕ → ℕ → List ℕ
-partAt bytes k = take (32 * k + 32 - 32 * k) (drop (32 * k) bytes)
+partAt bytes k = take (recordSize * k + recordSize - recordSize * k) (drop (recordSize * k) bytes)
 
 pub record-part : (bytes : List ℕ) (k : ℕ) → partAt bytes k ≡ recordAt bytes k
-record-part bytes k = let e : 32 * k + 32 - 32 * k ≡ 32 = omega arith in rw e
+record-part bytes k = let e : recordSize * k + recordSize - recordSize * k ≡ recordSize = omega arith in rw e
 
-pub part-length : (bytes : List ℕ) (k : ℕ) → 32 * k + 32 ≤ length bytes → length (partAt bytes k) ≡ 32
+pub part-length : (bytes : List ℕ) (k : ℕ) → recordSize * k + recordSize ≤ length bytes → length (partAt bytes k) ≡ recordSize
 part-length bytes k h = simp (length-take, length-drop) (omega arith)
 
 -- what is read of the part lent is read of record k

@@ -5,6 +5,7 @@ use Prim.Native.Nat.{ℕ, _+_, _*_, _-_, _≤_}
 use native.Mathlib.Omega.{arith}
 use lib.ListN.{drop, getD, length, length-append, length-drop, take}
 use lib.Seq.{getD-append-add, getD-drop, take-append-seam}
+use Rattle.model.specs.Records.{recordSize}
 use Rattle.model.specs.Limits.{planRoom}
 use Rattle.model.specs.Orders.{Order}
 use Rattle.model.specs.Stands.{Stands}
@@ -29,7 +30,7 @@ pub record Left (o : Order) (before after : List ℕ) (r : Planned) : Type 0 whe
   pub stands : Stands o plan
   pub bytes : after ≡ overwritten before plan
   pub finished : r .answer ≡ done
-  pub counted : length plan ≡ 32 * (r .classes + r .slots)
+  pub counted : length plan ≡ recordSize * (r .classes + r .slots)
 
 -- planning an accepted order with room for the plan leaves that
 pub planned : (order before : List ℕ) (o : Order) → Accepts order o → planRoom ≤ length before → (r : Planned) (after : List ℕ) → Plans order before r after
@@ -74,7 +75,7 @@ module _ (before plan : List ℕ) where
 -- "success changes only the plan's own records", and a refusal, which has none, no byte
 pub record Kept (before after : List ℕ) (r : Planned) : Type 0 where
   pub as-long : length after ≡ length before
-  pub behind : (i : ℕ) → 32 * (r .classes + r .slots) ≤ i → getD after i 0 ≡ getD before i 0
+  pub behind : (i : ℕ) → recordSize * (r .classes + r .slots) ≤ i → getD after i 0 ≡ getD before i 0
 
 pub kept : {order before : List ℕ} {r : Planned} {after : List ℕ} → Plans order before r after → Kept before after r
 kept (no-room small) = record { as-long = refl; behind = λ i l. refl }
@@ -88,10 +89,10 @@ kept {order} {before} (plans l o a p C c x v) =
 
 -- the first records of the buffer are a plan that stands
 pub plan-in-front : (order before : List ℕ) (o : Order) → Accepts order o → planRoom ≤ length before → (r : Planned) (after : List ℕ) → Plans order before r after
-    → Stands o (take (32 * (r .classes + r .slots)) after)
+    → Stands o (take (recordSize * (r .classes + r .slots)) after)
 plan-in-front order before o a room r after h =
     let left = planned order before o a room r after h in
     let plan = left .plan in
-    let front : take (32 * (r .classes + r .slots)) after ≡ plan =
+    let front : take (recordSize * (r .classes + r .slots)) after ≡ plan =
     ap (λ (n : ℕ). take n after) (sym (left .counted)) ∙ ap (take (length plan)) (left .bytes) ∙ front-overwritten before plan in
     subst (λ (b : List ℕ). Stands o b) (sym front) (left .stands)

@@ -9,7 +9,7 @@ use borrow.Author.Tests.{eq-eqb, eqb-true}
 use lib.Dec.{eqb}
 use lib.ListN.{drop, drop-of-length-le, getD, length, length-append, length-drop, length-take, take, take-append-drop}
 use lib.Seq.{drop-at, drop-drop, take-all, take-at}
-use Rattle.model.specs.Records.{Reading, andThen, blankAt, classParts, fieldsAt, numberAt, pick, read, readAll, readFrom, recordAt, recordBytes, refused, slotParts}
+use Rattle.model.specs.Records.{recordSize, Reading, andThen, blankAt, classParts, fieldsAt, numberAt, pick, read, readAll, readFrom, recordAt, recordBytes, refused, slotParts}
 use Rattle.model.specs.Lists.{All, also, none}
 use Rattle.model.specs.Plans.{Class, PlanRecord, Slot, classOf, classRecord, planOf, planRecordBytes, planRecordOf, planRecords, recordsBytes, slotOf, slotRecord}
 use Rattle.model.proofs.Lists.{All-append, All-map}
@@ -84,7 +84,7 @@ one-back (slotRecord s) h i =
 refused-read : {A : Type 0} {n place : ℕ} {a : A} → refused n place ≡ read a → ⊥
 refused-read e = let z : _≡_ {A = ℕ} 0 1 = cc in omega arith
 
-module _ (b : List ℕ) (h : Bytes b) (size : length b ≡ 32) where
+module _ (b : List ℕ) (h : Bytes b) (size : length b ≡ recordSize) where
   fields-class : getD b 0 0 ≡ 0x43 → classFields 0x43 (classOf b) ≡ fieldsAt classParts b 0
   unfolding fieldsAt
   fields-class k = ap (λ (kind : ℕ). classFields kind (classOf b)) (sym (kind-class b ∙ k))
@@ -95,11 +95,11 @@ module _ (b : List ℕ) (h : Bytes b) (size : length b ≡ 32) where
 
   class-taken : getD b 0 0 ≡ 0x43 → blankAt classParts b 0 ≡ true → planRecordBytes (classRecord (classOf b)) ≡ b
   unfolding planRecordBytes sizeOf
-  class-taken k z = ap (recordBytes classParts) (fields-class k) ∙ fields-taken classParts b h 0 z (omega arith) ∙ take-all 32 b (omega arith)
+  class-taken k z = ap (recordBytes classParts) (fields-class k) ∙ fields-taken classParts b h 0 z (omega arith) ∙ take-all recordSize b (omega arith)
 
   slot-taken : getD b 0 0 ≡ 0x53 → blankAt slotParts b 0 ≡ true → planRecordBytes (slotRecord (slotOf b)) ≡ b
   unfolding planRecordBytes sizeOf
-  slot-taken k z = ap (recordBytes slotParts) (fields-slot k) ∙ fields-taken slotParts b h 0 z (omega arith) ∙ take-all 32 b (omega arith)
+  slot-taken k z = ap (recordBytes slotParts) (fields-slot k) ∙ fields-taken slotParts b h 0 z (omega arith) ∙ take-all recordSize b (omega arith)
 
   -- what is read is written again
   pub one-taken : (i : ℕ) (r : PlanRecord) → planRecordOf b i ≡ read r → planRecordBytes r ≡ b
@@ -118,13 +118,13 @@ module _ (b : List ℕ) (h : Bytes b) (size : length b ≡ 32) where
 
 -- ---- records in a row
 
-reads-from : (rs : List PlanRecord) → All Narrow rs → (pre : List ℕ) (i : ℕ) → length pre ≡ 32 * i
+reads-from : (rs : List PlanRecord) → All Narrow rs → (pre : List ℕ) (i : ℕ) → length pre ≡ recordSize * i
     → readFrom planRecordOf (pre ++ recordsBytes rs) i (length rs) ≡ read rs
 unfolding recordsBytes readFrom
 reads-from [] none pre i e = refl
 reads-from (r ∷ rs) (also h g) pre i e =
     let here : recordAt (pre ++ (planRecordBytes r ++ recordsBytes rs)) i ≡ planRecordBytes r =
-    ap (take 32) (drop-at pre (planRecordBytes r ++ recordsBytes rs) (32 * i) e) ∙ take-at (planRecordBytes r) (recordsBytes rs) 32 (length-one r) in
+    ap (take recordSize) (drop-at pre (planRecordBytes r ++ recordsBytes rs) (recordSize * i) e) ∙ take-at (planRecordBytes r) (recordsBytes rs) recordSize (length-one r) in
     let later : readFrom planRecordOf (pre ++ (planRecordBytes r ++ recordsBytes rs)) (suc i) (length rs) ≡ read rs =
     rw append-assoc at (reads-from rs g (pre ++ planRecordBytes r) (suc i) (omega (arith, length-append pre (planRecordBytes r), length-one r))) in
     rw (here, one-back r h i, later)
@@ -133,35 +133,35 @@ reads-from (r ∷ rs) (also h g) pre i e =
 pub read-written : (rs : List PlanRecord) → All Narrow rs → planRecords (recordsBytes rs) ≡ read rs
 unfolding planRecords
 read-written rs h =
-    rw (length-records rs, eq-eqb (32 * length rs % 32) 0 (mul-mod-right 32 (length rs)), mul-div-right (length rs) {m = 32} (omega arith))
+    rw (length-records rs, eq-eqb (recordSize * length rs % recordSize) 0 (mul-mod-right recordSize (length rs)), mul-div-right (length rs) {m = recordSize} (omega arith))
     (reads-from rs h [] 0 refl)
 
 module _ (b : List ℕ) (h : Bytes b) where
-  taken-from : (n i : ℕ) (rs : List PlanRecord) → length b ≡ 32 * (i + n) → readFrom planRecordOf b i n ≡ read rs → recordsBytes rs ≡ drop (32 * i) b
+  taken-from : (n i : ℕ) (rs : List PlanRecord) → length b ≡ recordSize * (i + n) → readFrom planRecordOf b i n ≡ read rs → recordsBytes rs ≡ drop (recordSize * i) b
   unfolding readFrom recordsBytes
-  taken-from zero i rs l e = let q : rs ≡ [] = cc in rw (q, drop-of-length-le b {i = 32 * i} (omega arith))
+  taken-from zero i rs l e = let q : rs ≡ [] = cc in rw (q, drop-of-length-le b {i = recordSize * i} (omega arith))
   taken-from (suc n) i rs l e =
-      go (planRecordOf (recordAt b i) i) (readFrom planRecordOf b (suc i) n) refl (λ t f. rw (mul-suc 32 i) at (taken-from n (suc i) t (omega arith) f)) e
+      go (planRecordOf (recordAt b i) i) (readFrom planRecordOf b (suc i) n) refl (λ t f. rw (mul-suc recordSize i) at (taken-from n (suc i) t (omega arith) f)) e
     where
       go : (one : Reading PlanRecord) (others : Reading (List PlanRecord)) → planRecordOf (recordAt b i) i ≡ one
-          → ((t : List PlanRecord) → others ≡ read t → recordsBytes t ≡ drop (32 * i + 32) b)
-          → andThen one (λ a. andThen others (λ rest. read (a ∷ rest))) ≡ read rs → recordsBytes rs ≡ drop (32 * i) b
+          → ((t : List PlanRecord) → others ≡ read t → recordsBytes t ≡ drop (recordSize * i + recordSize) b)
+          → andThen one (λ a. andThen others (λ rest. read (a ∷ rest))) ≡ read rs → recordsBytes rs ≡ drop (recordSize * i) b
       go (read r) (read t) f later q =
           let here : planRecordBytes r ≡ recordAt b i =
-          one-taken (recordAt b i) (bytes-take 32 (drop (32 * i) b) (bytes-drop (32 * i) b h))
-          (omega (arith, length-take 32 (drop (32 * i) b), length-drop (32 * i) b)) i r f in
+          one-taken (recordAt b i) (bytes-take recordSize (drop (recordSize * i) b) (bytes-drop (recordSize * i) b h))
+          (omega (arith, length-take recordSize (drop (recordSize * i) b), length-drop (recordSize * i) b)) i r f in
           let all : rs ≡ r ∷ t = cc in
-          rw (all, here, later t refl, ← drop-drop 32 (32 * i) b) (take-append-drop 32 (drop (32 * i) b))
+          rw (all, here, later t refl, ← drop-drop recordSize (recordSize * i) b) (take-append-drop recordSize (drop (recordSize * i) b))
       go (read r) (refused n place) f g q = absurd (refused-read q)
       go (refused n place) others f g q = absurd (refused-read q)
 
   -- bytes that are read as records are those records' bytes
   pub written-read : (rs : List PlanRecord) → planRecords b ≡ read rs → recordsBytes rs ≡ b
   unfolding planRecords
-  written-read rs e = go (eqb (length b % 32) 0) refl e
+  written-read rs e = go (eqb (length b % recordSize) 0) refl e
     where
-      go : (even : Bool) → eqb (length b % 32) 0 ≡ even → pick even (readAll planRecordOf b) (refused 10 0) ≡ read rs → recordsBytes rs ≡ b
-      go true k q = taken-from (length b / 32) 0 rs (omega (arith, eqb-true (length b % 32) 0 k)) q
+      go : (even : Bool) → eqb (length b % recordSize) 0 ≡ even → pick even (readAll planRecordOf b) (refused 10 0) ≡ read rs → recordsBytes rs ≡ b
+      go true k q = taken-from (length b / recordSize) 0 rs (omega (arith, eqb-true (length b % recordSize) 0 k)) q
       go false k q = absurd (refused-read q)
 
 -- bytes are one list of records

@@ -1,14 +1,15 @@
 -- `spoilt` meets its contract: every index is below 32, so the byte to spoil lies in its record.
 use Prim.Native.Nat.{_≤_, _-_}
 use borrow.Author.Needs.{needs}
+use Rattle.model.specs.Records.{recordSize}
 use Rattle.orders_seen.proofs.spoilt.Statement.{statement}
 use Rattle.orders_seen.proofs.spoilt.Tie as tie
 
 abbrev Inv-loop : tie.InvT-loop
-Inv-loop i₀ i = i ≤ 32
+Inv-loop i₀ i = i ≤ recordSize
 
 abbrev μ-loop : tie.MeasureT-loop
-μ-loop i₀ i = 32 - i
+μ-loop i₀ i = recordSize - i
 
 loop-holds : tie.Need-loop-holds Inv-loop μ-loop
 loop-holds c = search needs

@@ -3,6 +3,7 @@ use lib.ListN.{length}
 use mathlib.Core.Path.{ap, _∙_}
 use Prim.Native.Nat.{_+_, _*_, _≤_}
 use native.Mathlib.Omega.{arith}
+use Rattle.model.specs.Records.{recordSize}
 use Rattle.records.proofs.Laws.{length-written}
 use Rattle.plan_layout.specs.Held.{asLane}
 use Rattle.plan_layout.proofs.Shares.{Small, laid-none, laid-one, laid-two, room-one, room-two, small}
@@ -75,7 +76,7 @@ returns-2 c =
 -- room for the two records of a share that is cut
 room : (c : tie.Else2) →
     let A = c .before .before .before .before .before .args in
-    32 * A .r + 64 ≤ length (A .b .now)
+    recordSize * A .r + 64 ≤ length (A .b .now)
 room c =
     let some = c .before .before .before in
     room-two (some .before .before .pre) (some .if1 .left) (c .if2 .left)

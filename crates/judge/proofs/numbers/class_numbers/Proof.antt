@@ -7,9 +7,10 @@ use Rattle.judge.proofs.Naming.{numbers-more, numbers-none, numbers-to}
 use native.Mathlib.Omega.{arith}
 use Rattle.judge.proofs.numbers.class_numbers.Statement.{statement}
 use Rattle.judge.proofs.numbers.class_numbers.Tie as tie
+use Rattle.model.specs.Records.{recordSize}
 
 abbrev Inv-loop : tie.InvT-loop
-Inv-loop plan p m numbers₀ i₀ numbers i = (m ≡ length plan / 32) × (p ≤ i) × (i ≤ m) × ClassNumbers plan p i numbers
+Inv-loop plan p m numbers₀ i₀ numbers i = (m ≡ length plan / recordSize) × (p ≤ i) × (i ≤ m) × ClassNumbers plan p i numbers
 
 abbrev μ-loop : tie.MeasureT-loop
 μ-loop plan p m numbers₀ i₀ numbers i = m - i

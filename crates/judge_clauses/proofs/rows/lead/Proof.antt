@@ -3,7 +3,7 @@ use mathlib.Core.Path.{_≡_, sym, _∙_}
 use Prim.Native.Nat.{ℕ, _-_, _/_, _<_, _≤_}
 use lib.ListN.{length}
 use borrow.Author.Count.{below-more}
-use Rattle.model.specs.Records.{classKind}
+use Rattle.model.specs.Records.{recordSize, classKind}
 use Rattle.records.specs.Plan.{kindAt}
 use borrow.Author.Needs.{needs}
 use native.Mathlib.Omega.{arith}
@@ -11,7 +11,7 @@ use Rattle.judge_clauses.proofs.rows.lead.Statement.{statement}
 use Rattle.judge_clauses.proofs.rows.lead.Tie as tie
 
 abbrev Inv-loop : tie.InvT-loop
-Inv-loop plan m i₀ i = (m ≡ length plan / 32) × (i ≤ m) × ((k : ℕ) → k < i → kindAt plan k ≡ classKind)
+Inv-loop plan m i₀ i = (m ≡ length plan / recordSize) × (i ≤ m) × ((k : ℕ) → k < i → kindAt plan k ≡ classKind)
 
 abbrev μ-loop : tie.MeasureT-loop
 μ-loop plan m i₀ i = m - i

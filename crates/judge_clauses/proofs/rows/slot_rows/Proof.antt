@@ -3,7 +3,7 @@ use mathlib.Core.Path.{_≡_}
 use Prim.Native.Nat.{ℕ, _-_, _/_, _<_, _≤_}
 use lib.ListN.{length}
 use borrow.Author.Count.{below-more}
-use Rattle.model.specs.Records.{recordAt}
+use Rattle.model.specs.Records.{recordSize, recordAt}
 use Rattle.judge_clauses.specs.Tests.{SlotRow}
 use Rattle.judge_clauses.proofs.Tell.{tells-slot, tells-not, tells-off, tells-on, tells-was}
 use borrow.Author.Needs.{needs}
@@ -12,7 +12,7 @@ use Rattle.judge_clauses.proofs.rows.slot_rows.Statement.{statement}
 use Rattle.judge_clauses.proofs.rows.slot_rows.Tie as tie
 
 abbrev Inv-loop : tie.InvT-loop
-Inv-loop plan p m i₀ i = (m ≡ length plan / 32) × (p ≤ i) × ((k : ℕ) → k < i → p ≤ k → SlotRow (recordAt plan k))
+Inv-loop plan p m i₀ i = (m ≡ length plan / recordSize) × (p ≤ i) × ((k : ℕ) → k < i → p ≤ k → SlotRow (recordAt plan k))
 
 abbrev μ-loop : tie.MeasureT-loop
 μ-loop plan p m i₀ i = m - i
