@@ -88,7 +88,9 @@ module _ (o : Order) (t : Tables) (x : List ℕ) (m : List (List ℕ)) (h : Hold
       light = λ i l. omega (arith, h .weight i l, W-most o fit (t .classes) C (C i));
       most = λ i k j l q r. rw (len-same j (in-order j r), h .weight i l) (run j (in-order j r) .most i k l (omega (arith, h .doses)));
       full = λ i j l r. rw (h .doses, len-same j (in-order j r), h .weight i l, h .fans i j l (in-order j r)) (run j (in-order j r) .full i l);
-      room = λ j r. omega (arith, sum-congr (t .classes) {f = λ i. fansAt m i j} {g = λ i. reserved (settingOf o) (fansPresent o) C i j} (λ i l. h .fans i j l (in-order j r)), run j (in-order j r) .room, fit .fans-most);
+      room = λ j r.
+          let same = sum-congr (t .classes) {f = λ i. fansAt m i j} {g = λ i. reserved (settingOf o) (fansPresent o) C i j} (λ i l. h .fans i j l (in-order j r)) in
+          omega (arith, same, run j (in-order j r) .room, fit .fans-most);
     }
 
     -- and the records have room

@@ -1,5 +1,9 @@
 -- `plan` meets its contract: 1 by the buffer's length, 2 to 8 by the reading, then 9 or the plan (Answering).
+use mathlib.Core.Path.{_≡_}
+use Rattle.model.specs.Records.{read}
+use Rattle.model.specs.Orders.{readOrder}
 use Rattle.model.proofs.Orders.{read-fits}
+use Rattle.order.specs.Held.{asOrder}
 use Rattle.order.proofs.Settles.{was-read, was-refused}
 use Rattle.plan.proofs.Answering.{nine-or-done, one, two-to-eight}
 use borrow.Author.Needs.{needs}
@@ -19,16 +23,34 @@ refused-requires-2 : tie.Need-refused-requires-2
 refused-requires-2 c κs = search needs
 
 returns-2 : tie.Need-returns-2
-returns-2 c = two-to-eight _ _ (c .before .before .before .before .if1 .left) (was-refused _ _ (c .before .before .before .read-order .ensures) (c .before .if2 .taken)) (c .refused2 .ensures)
+returns-2 c =
+    let refused = c .before in
+    let reading = refused .before .before in
+    let roomy = reading .before in
+    two-to-eight _ _ (roomy .if1 .left) (was-refused _ _ (reading .read-order .ensures) (refused .if2 .taken)) (c .refused2 .ensures)
+
+-- no refusal 2 to 8: the bytes are an order's
+order-is : (c : tie.Else2) →
+    let reading = c .before .before in
+    let A = reading .before .before .before .before .args in
+    readOrder (A .order .now) ≡ read (asOrder (reading .read-order .result .order))
+order-is c = was-read _ _ (c .before .before .read-order .ensures) (c .if2 .left)
 
 plan-order-requires : tie.Need-plan-order-requires
-plan-order-requires c κs = (read-fits _ _ (was-read _ _ (c .before .before .before .before .read-order .ensures) (c .before .before .if2 .left)), c .before .before .before .before .before .if1 .left)
+plan-order-requires c κs =
+    let reading = c .before .before in
+    let roomy = reading .before .before .before in
+    (read-fits _ _ (order-is reading), roomy .if1 .left)
 
 same-length : tie.Need-same-length
 same-length c = search needs
 
 returns-3 : tie.Need-returns-3
-returns-3 c = nine-or-done _ _ (c .before .before .before .before .before .before .before .before .if1 .left) (was-read _ _ (c .before .before .before .before .before .before .before .read-order .ensures) (c .before .before .before .before .before .if2 .left)) (c .before .before .plan-order .ensures)
+returns-3 c =
+    let planned = c .before .before in
+    let reading = planned .before .before .before in
+    let roomy = reading .before .before .before in
+    nine-or-done _ _ (roomy .if1 .left) (order-is reading) (planned .plan-order .ensures)
 
 pub plan-spec : {M : Type 1} → statement M
 plan-spec =

@@ -20,7 +20,9 @@ same-length : tie.Need-same-length
 same-length c = search needs
 
 returns-2 : tie.Need-returns-2
-returns-2 c = slow-enough (c .before .before .before .before .before .too-fast .ensures) (c .before .before .before .before .if1 .left) (c .before .before .write-order .ensures)
+returns-2 c =
+    let slow = c .before .before .before .before in
+    slow-enough (slow .before .too-fast .ensures) (slow .if1 .left) (c .before .before .write-order .ensures)
 
 pub answer-order-spec : {M : Type 1} → statement M
 answer-order-spec =

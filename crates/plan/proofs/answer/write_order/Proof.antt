@@ -2,6 +2,8 @@
 use mathlib.Core.Path.{_≡_}
 use lib.ListN.{length}
 use Rattle.model.specs.Limits.{cells}
+use Rattle.order.specs.Held.{asOrder}
+use Rattle.plan.specs.Held.{Holds}
 use Rattle.plan.proofs.Holding.{filled, roomy}
 use Rattle.order.proofs.Fields.{few-doses}
 use Rattle.plan.proofs.Tabling.{tables-hold}
@@ -16,8 +18,25 @@ instants-of-requires c κs = few-doses _ (c .before .before .before .before .pre
 tables-of-requires : tie.Need-tables-of-requires
 tables-of-requires c κs = search needs
 
+-- the tables hold the order's classes and its valid shares
+hold : (c : tie.After-write-plan-arg2) →
+    let tables = c .before .before in
+    let A = tables .before .before .before .before .before .before .args in
+    Holds (asOrder (A .o)) (tables .tables-of .result) (A .shares .now) (A .reserved .now)
+hold c =
+    let tables = c .before .before in
+    let instants = tables .before in
+    let start = instants .before .before .before .before .before in
+    let classes = start .pre .1 in
+    let shares = start .pre .2 in
+    let size : length (start .args .shares .now) ≡ cells = search needs in
+    tables-hold (start .pre .0) (instants .instants-of .ensures) (tables .tables-of .ensures) (classes .classes) (classes .weight) (classes .time) (shares .rows) size
+    (shares .valid)
+
 write-plan-requires : tie.Need-write-plan-requires
-write-plan-requires c κs = let P = c .before .before .before .before .before .before .before .before .pre in let size : length (c .before .before .before .before .before .before .before .before .args .shares .now) ≡ cells = search needs in let h = tables-hold (P .0) (c .before .before .before .instants-of .ensures) (c .before .before .tables-of .ensures) (P .1 .classes) (P .1 .weight) (P .1 .time) (P .2 .rows) size (P .2 .valid) in (filled _ _ _ _ h (P .0), roomy _ _ _ _ h (P .0) (P .3))
+write-plan-requires c κs =
+    let start = c .before .before .before .before .before .before .before .before in
+    (filled _ _ _ _ (hold c) (start .pre .0), roomy _ _ _ _ (hold c) (start .pre .0) (start .pre .3))
 
 finished-requires : tie.Need-finished-requires
 finished-requires c κs = search needs
@@ -26,7 +45,9 @@ same-length : tie.Need-same-length
 same-length c = search needs
 
 returns : tie.Need-returns
-returns c = let P = c .before .before .before .before .before .before .before .before .before .before .before .before .pre in let size : length (c .before .before .before .before .before .before .before .before .before .before .before .before .args .shares .now) ≡ cells = search needs in let h = tables-hold (P .0) (c .before .before .before .before .before .before .before .instants-of .ensures) (c .before .before .before .before .before .before .tables-of .ensures) (P .1 .classes) (P .1 .weight) (P .1 .time) (P .2 .rows) size (P .2 .valid) in written _ _ _ _ h (c .before .before .before .write-plan .ensures .0) (c .before .before .before .write-plan .ensures .1) (c .finished .ensures)
+returns c =
+    let wrote = c .before .before .before in
+    written _ _ _ _ (hold (wrote .before)) (wrote .write-plan .ensures .0) (wrote .write-plan .ensures .1) (c .finished .ensures)
 
 pub write-order-spec : {M : Type 1} → statement M
 write-order-spec =

@@ -40,7 +40,10 @@ loop-less : tie.Need-loop-less Inv-loop μ-loop
 loop-less c = search needs
 
 loop-again : tie.Need-loop-again Inv-loop μ-loop
-loop-again c = (omega arith, search needs, stored 0 (λ k. getD (c .before .before .args .t1) k 0 % 4294967296) (c .before .loop .numbers) _ _ (omega arith) (c .before .loop .inv .2) refl)
+loop-again c =
+    let turn = c .before in
+    let wide = turn .before .args .t1 in
+    (omega arith, search needs, stored 0 (λ k. getD wide k 0 % 4294967296) (turn .loop .numbers) _ _ (omega arith) (turn .loop .inv .2) refl)
 
 returns : tie.Need-returns Inv-loop μ-loop
 returns c = λ i l. c .before .loop .inv .2 i (omega arith)

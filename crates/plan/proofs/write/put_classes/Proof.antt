@@ -38,7 +38,10 @@ loop-less : tie.Need-loop-less Inv-loop μ-loop
 loop-less c = search needs
 
 loop-again : tie.Need-loop-again Inv-loop μ-loop
-loop-again c = (omega arith, omega arith, classes-more _ (c .before .before .before .before .before .before .before .loop .inv .2) (c .before .before .before .class-from .ensures) (c .before .before .put-class .ensures))
+loop-again c =
+    let read = c .before .before .before in
+    let turn = read .before .before .before .before in
+    (omega arith, omega arith, classes-more _ (turn .loop .inv .2) (read .class-from .ensures) (c .before .before .put-class .ensures))
 
 same-length : tie.Need-same-length Inv-loop μ-loop
 same-length c = c .before .before .loop .inv .1

@@ -12,7 +12,11 @@ put-classes-requires : tie.Need-put-classes-requires
 put-classes-requires c κs = search needs
 
 lay-all-requires : tie.Need-lay-all-requires
-lay-all-requires c κs = (c .before .before .before .before .before .before .before .pre .0, omega (arith, c .before .before .before .before .before .before .before .pre .1, classes-next _ (c .before .before .before .put-classes .ensures), wrote-length (c .before .before .before .put-classes .ensures)))
+lay-all-requires c κs =
+    let classes = c .before .before .before in
+    let start = classes .before .before .before .before in
+    let wrote = classes .put-classes .ensures in
+    (start .pre .0, omega (arith, start .pre .1, classes-next _ wrote, wrote-length wrote))
 
 sub-result : tie.Need-sub-result
 sub-result c = search needs
@@ -21,7 +25,14 @@ same-length : tie.Need-same-length
 same-length c = search needs
 
 returns : tie.Need-returns
-returns c = (omega (arith, c .before .before .lay-all .ensures .next), plan-written (c .before .before .before .before .before .before .put-classes .ensures) (c .before .before .lay-all .ensures) (omega (arith, c .before .before .before .before .before .before .before .before .before .before .pre .1, length-singles (c .before .before .before .before .before .before .before .before .before .before .args .t .classes) (classFrom (c .before .before .before .before .before .before .before .before .before .before .args .t)))))
+returns c =
+    let slots = c .before .before in
+    let classes = slots .before .before .before .before in
+    let start = classes .before .before .before .before in
+    let t = start .args .t in (
+      omega (arith, slots .lay-all .ensures .next),
+      plan-written (classes .put-classes .ensures) (slots .lay-all .ensures) (omega (arith, start .pre .1, length-singles (t .classes) (classFrom t))),
+    )
 
 pub write-plan-spec : {M : Type 1} → statement M
 write-plan-spec =
