@@ -1,15 +1,13 @@
 -- The arrays of an order, and what the tests over them tell of the order.
 use mathlib.Core.Bool.{Bool, true}
 use mathlib.Core.List.{List}
-use mathlib.Core.Path.{_≡_, sym, ap, _∙_}
+use mathlib.Core.Path.{_≡_, ap, _∙_}
 use Prim.Native.Nat.{ℕ, _*_, _-_, _/_, _<_, _≤_}
 use native.Mathlib.Omega.{arith}
-use borrow.Author.Tests.{eq-eqb, ne-eqb}
 use lib.Dec.{T, ltb→lt, lt→ltb}
 use lib.ListN.{length}
+use Rattle.model.specs.Records.{recordSize}
 use Rattle.model.specs.Sets.{Doses}
-use Rattle.model.specs.Records.{recordSize, read, refused}
-use Rattle.model.specs.Orders.{readOrder}
 use Rattle.model.specs.Orders as model
 use Rattle.model.specs.Intervals.{fansPresent, settingOf}
 use Rattle.model.specs.Classes.{P, W, free, remaining, setNumber}
@@ -20,8 +18,7 @@ use Rattle.model.proofs.Sets.{weight-alike}
 use Rattle.model.proofs.FanTime.{P-alike}
 use Rattle.model.proofs.NextClass.{next-unique}
 use Rattle.order.specs.declared.Order.{Order}
-use Rattle.order.specs.declared.Reading.{Reading}
-use Rattle.order.specs.Held.{ReadFrom, asOrder}
+use Rattle.order.specs.Held.{asOrder}
 use Rattle.order.proofs.Fields.{doses-is, fans-is, top-grams-is, top-seconds-is, dose-is}
 use Rattle.interval.specs.declared.Instants.{Instants}
 use Rattle.interval.specs.Held.{InstantsOf}
@@ -113,11 +110,3 @@ module _ (o : Order) (other : Judged) {plan : List ℕ} {p : ℕ} {numbers : Lis
       (lt→ltb (P (settingOf (asOrder o)) (fansPresent (asOrder o)) A * asOrder o .topGrams) (W (settingOf (asOrder o)) A * asOrder o .topSeconds)
       (rw (← weight-is, ← time-is, ← top-seconds-is o, ← top-grams-is o) h))
       (rw (es ∙ ap (λ (n : ℕ). setNumber n A) (doses-is o), eg ∙ weight-is, et ∙ time-is))
-
--- ---- the order that was read
-
-pub read-refused : {bytes : List ℕ} {r : Reading} → ReadFrom bytes r → (r .number ≡ 0 → ⊥) → readOrder bytes ≡ refused (r .number) (r .place)
-read-refused {bytes} {r} f h = sym (f .says) ∙ rw (ne-eqb (r .number) 0 h)
-
-pub read-order-is : {bytes : List ℕ} {r : Reading} → ReadFrom bytes r → r .number ≡ 0 → readOrder bytes ≡ read (asOrder (r .order))
-read-order-is {bytes} {r} f h = sym (f .says) ∙ rw (eq-eqb (r .number) 0 h)

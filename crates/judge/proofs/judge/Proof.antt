@@ -4,7 +4,7 @@ use Rattle.model.specs.Records.{read}
 use Rattle.model.specs.Orders.{readOrder}
 use Rattle.model.proofs.Orders.{read-fits}
 use Rattle.order.specs.Held.{asOrder}
-use Rattle.judge.proofs.OfOrder.{read-order-is, read-refused}
+use Rattle.order.proofs.Settles.{was-read, was-refused}
 use Rattle.judge.proofs.Verdicts.{judged-falls, judged-stands, judged-unread}
 use borrow.Author.Needs.{needs}
 use Rattle.judge.proofs.judge.Statement.{statement}
@@ -14,14 +14,14 @@ read-order-requires : tie.Need-read-order-requires
 read-order-requires c κs = search needs
 
 returns : tie.Need-returns
-returns c = judged-unread _ _ _ _ (read-refused (c .before .before .read-order .ensures) (c .if1 .taken))
+returns c = judged-unread _ _ _ _ (was-refused _ _ (c .before .before .read-order .ensures) (c .if1 .taken))
 
 -- no refusal 2 to 8: the bytes are an order's
 order-is : (c : tie.Else1) →
     let reading = c .before .before in
     let A = reading .before .before .before .args in
     readOrder (A .order .now) ≡ read (asOrder (reading .read-order .result .order))
-order-is c = read-order-is (c .before .before .read-order .ensures) (c .if1 .left)
+order-is c = was-read _ _ (c .before .before .read-order .ensures) (c .if1 .left)
 
 certify-requires : tie.Need-certify-requires
 certify-requires c κs = read-fits _ _ (order-is (c .before))
