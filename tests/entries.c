@@ -1,0 +1,62 @@
+/* entries ORDER PLAN DOSE: every entry point asked from C, for the order's own plan and for the one given, each slice in memory of its own
+ * length. Exits 1 where two answers don't agree. */
+#include "knellgable.h"
+#include <stdio.h>
+#include <stdlib.h>
+#include <string.h>
+
+struct bytes {
+    uint8_t *at;
+    size_t count;
+};
+
+/* A whole file of up to 1 MiB, in memory that ends where it ends. */
+static struct bytes read_file(const char *name)
+{
+    static uint8_t room[1 << 20];
+    FILE *from = fopen(name, "rb");
+    if (!from) {
+        fprintf(stderr, "entries: can't read %s\n", name);
+        exit(2);
+    }
+    struct bytes file = {NULL, fread(room, 1, sizeof room, from)};
+    fclose(from);
+    file.at = malloc(file.count);
+    if (file.count > 0)
+        memcpy(file.at, room, file.count);
+    return file;
+}
+
+/* Judged, drawn and walked: one refusal for all, or a point that the pen comes to as well. */
+static int asked(struct bytes order, struct bytes plan, size_t dose)
+{
+    knellgable_judged judged = knellgable_judge(order.at, order.count, plan.at, plan.count);
+    for (uint32_t at = 0; at < KNELLGABLE_WEEK; at += 100799) {
+        uint32_t tick = at;
+        knellgable_drawn moved = knellgable_advance(order.at, order.count, plan.at, plan.count, dose, &tick);
+        knellgable_drawn point = knellgable_point(order.at, order.count, plan.at, plan.count, dose, at + 1);
+        if (judged.number != 0 && (point.number != judged.number || point.place != judged.place || tick != at))
+            return 1;
+        if (moved.number != point.number || moved.amount != point.amount || moved.state != point.state || moved.fan != point.fan)
+            return 1;
+    }
+    return 0;
+}
+
+int main(int count, char **words)
+{
+    if (count != 4) {
+        fprintf(stderr, "use: entries ORDER PLAN DOSE\n");
+        return 2;
+    }
+    struct bytes order = read_file(words[1]), given = read_file(words[2]), own = {malloc(KNELLGABLE_PLAN_ROOM), 0};
+    size_t dose = strtoul(words[3], NULL, 10);
+    knellgable_planned planned = knellgable_plan(order.at, order.count, own.at, KNELLGABLE_PLAN_ROOM);
+    own.count = 32 * (planned.classes + planned.slots);
+    int wrong = planned.number == 0 && knellgable_judge(order.at, order.count, own.at, own.count).number != 0;
+    wrong |= asked(order, own, dose) | asked(order, given, dose);
+    free(order.at);
+    free(given.at);
+    free(own.at);
+    return wrong;
+}
