@@ -1,0 +1,202 @@
+"""The command line: a verb is a function here, under its use and what it does."""
+from __future__ import annotations
+
+import argparse
+import os
+import signal
+import subprocess
+import sys
+from collections.abc import Callable
+from pathlib import Path
+
+from . import build, report, sheet
+from .figures import whole_in
+from .library import Library
+from .orders import Order, Wrong, read_bytes, read_order, write_text
+from .plans import Differs, Plan
+from .words import Refusal, check, check_text
+
+VERBS: dict[str, tuple[str, str, Callable[..., int | None]]] = {}
+
+
+def verb(use: str, does: str):
+    """Makes a function a verb. Its use names its arguments, of the kinds below; those in brackets may be left out."""
+    def made(function: Callable[..., int | None]):
+        VERBS[use.split()[0]] = use, does, function
+        return function
+    return made
+
+
+def writable(name: str) -> Path:
+    path = Path(name)
+    if path.is_dir() or not path.parent.is_dir():
+        raise Wrong(f"can't write {name}")
+    return path
+
+
+def dose_number(text: str) -> int:
+    number = whole_in(text)
+    if number is None:
+        raise Wrong(f"not a dose number: {text}")
+    return number
+
+
+KINDS = {"ORDER": read_order, "PLAN": read_bytes, "OUT": writable, "DOSE": dose_number}
+
+
+def library_for(order: Order) -> Library:
+    """The library, built where need be, for an order whose text holds nothing out of range."""
+    library = Library(build.need_library())
+    check_text(order, library)
+    return library
+
+
+def plan_for(order: Order, given: bytes | None) -> Plan:
+    """The plan given, or else the library's own; it stands."""
+    library, data = library_for(order), given
+    if data is None:
+        answer, data = library.plan(order.data)
+        check(answer, order, library)
+    check(library.judge(order.data, data), order, library)
+    return Plan(order, data, library)
+
+
+def both_forms(order: Order) -> Order:
+    """An order that is text as well as bytes: if it is refused, then for what its records say together."""
+    library = library_for(order)
+    answer = library.judge(order.data)
+    if answer.number in (2, 3, 4, 5):
+        check(answer, order, library)
+    return order
+
+
+def write(out: Path, data: bytes) -> None:
+    try:
+        out.write_bytes(data)
+    except OSError:
+        raise Wrong(f"can't write {out}") from None
+
+
+@verb("plan ORDER [OUT.plan] [--records]", "says what each fan feeds when, or the plan's records as the printer does")
+def plan(order: Order, out: Path | None, records: bool) -> int | None:
+    if records:
+        library_for(order)
+        status = subprocess.run([build.PRINTER.need()], input=order.data, check=False).returncode
+        if status or not out:
+            return status
+    made = plan_for(order, None)
+    if out:
+        write(out, made.data)
+    if not records:
+        print(report.plan_words(made))
+    return None
+
+
+@verb("judge ORDER [PLAN]", "says whether a plan stands: the one given or, here and below, the library's own")
+def judge(order: Order, plan: bytes | None) -> None:
+    plan_for(order, plan)
+    print("stands")
+
+
+@verb("draw ORDER DOSE [PLAN]", "says how much of a dose is in, and by which fan, at seconds of its window")
+def draw(order: Order, dose: int, plan: bytes | None) -> None:
+    made = plan_for(order, plan)
+    check(made.point(dose, 0), order, made.library)
+    print(report.line_words(made, dose))
+
+
+@verb("sheet ORDER [PLAN] OUT.html", "writes the page of a plan, or of a refusal")
+def make_sheet(order: Order, plan: bytes | None, out: Path) -> None:
+    try:
+        made = plan_for(order, plan)
+    except Refusal as refusal:
+        write(out, sheet.refused_page(refusal, order).encode())
+        raise
+    write(out, sheet.planned_page(made).encode())
+    print(f"{out}: {sheet.title_of(made)}, the plan stands")
+
+
+@verb("order ORDER OUT.order", "writes an order's bytes")
+def to_bytes(order: Order, out: Path) -> None:
+    write(out, both_forms(order).data)
+
+
+@verb("text ORDER", "says an order as text, for a spreadsheet")
+def to_text(order: Order) -> int:
+    try:
+        print(write_text(both_forms(order)), end="")
+        return 0
+    except Refusal as refusal:  # what is printed may go into a file
+        print(refusal, file=sys.stderr)
+        return 1
+
+
+@verb("test", "proves everything from nothing and tests it, some 15 minutes on two cores")
+def test() -> int:
+    build.say("everything is proved from nothing and tested, some 15 minutes on two cores")
+    return build.shown("proving and testing", [".ci/run"])
+
+
+@verb("bench", "measures, and writes docs/BENCHMARKS.md, some 5 minutes")
+def bench() -> int:
+    build.PRINTER.need()
+    build.ARCHIVE.need()
+    build.say("measuring, some 5 minutes")
+    return build.shown("measuring", "cargo run --quiet --manifest-path second/Cargo.toml --profile measure --offline "
+                       "--features library -- bench 100 docs/BENCHMARKS.md".split())
+
+
+class Parser(argparse.ArgumentParser):
+    """Bad use is one line."""
+    def error(self, message: str):
+        raise Wrong(f"{message}; use: {self.usage}")
+
+
+def help_words() -> str:
+    width = max(len(use) for use, _, _ in VERBS.values())
+    return "\n".join(["use: ./knell VERB ..; an ORDER is bytes, or text where its name ends in .csv",
+                      *(f"  {use:{width}}  {does}" for use, does, _ in VERBS.values()),
+                      "It exits 0, 1 at a refusal, and 2 at bad use, a file that can't be read or written, "
+                      "or a failed build."])
+
+
+def run(words: list[str]) -> int:
+    if words[:1] in (["help"], ["--help"], ["-h"]):
+        print(help_words())
+        return 0
+    if not words or words[0] not in VERBS:
+        raise Wrong(f"{f'no verb {words[0]!r}' if words else 'no verb'}: ./knell help says which there are")
+    use, _, function = VERBS[words[0]]
+    parser = Parser(usage=f"./knell {use}", add_help=False)
+    for word in use.split()[1:]:
+        name, optional = word.strip("[]"), word.startswith("[")
+        kind = name.partition(".")[0]
+        if name.startswith("--"):
+            parser.add_argument(name, action="store_true")
+        else:
+            parser.add_argument(kind.lower(), metavar=name, type=KINDS[kind], nargs="?" if optional else None)
+    return function(**vars(parser.parse_args(words[1:]))) or 0
+
+
+def main() -> int:
+    signal.signal(signal.SIGPIPE, signal.SIG_DFL)
+    try:
+        try:
+            status = run(sys.argv[1:])
+        except Refusal as refusal:
+            print(refusal)
+            status = 1
+        sys.stdout.flush()
+        return status
+    except (Wrong, Differs) as wrong:
+        build.say(str(wrong))
+    except OSError:
+        os.dup2(os.open(os.devnull, os.O_WRONLY), sys.stdout.fileno())
+        build.say("can't write standard output")
+    except KeyboardInterrupt:
+        build.say("stopped")
+    return 2
+
+
+if __name__ == "__main__":
+    sys.exit(main())

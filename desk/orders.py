@@ -1,0 +1,171 @@
+"""Orders, and their text: CSV with a header row, then a row for the fans and a row for each dose.
+
+A row is a record, in the same sequence: bytes and text go over into each other without loss.
+"""
+from __future__ import annotations
+
+import csv
+import io
+from dataclasses import astuple, dataclass
+from functools import cached_property
+from pathlib import Path
+
+from .figures import clock, plain, seconds_in, whole_in
+from .library import LAYOUT, RECORD, Dose, Fans, read_records, write_record
+
+ROWS = {Dose: ("dose", ("bay", "start", "done", "grams")), Fans: ("fans", ("fans", "top grams", "top seconds"))}
+KINDS = {name: kind for kind, (name, _) in ROWS.items()}
+COLUMNS = ("row", *(column for _, columns in ROWS.values() for column in columns))
+TIMES = ("start", "done")
+# Words only: whether a value is in range is the library's to say.
+RANGES = {"bay": "1 to 999", "start": "0 to 604,799, which is Sun 23:59:59",
+          "done": "a second after the start up to 604,800, which is Sun 24:00", "grams": "1 to 1,000,000",
+          "fans": "1 to 8", "top grams": "1 to 1,000,000", "top seconds": "1 to 1,000,000"}
+
+
+class Wrong(Exception):
+    """Bad use, a file that can't be read or written, or a text that is no order: one line."""
+
+
+@dataclass(frozen=True)
+class Order:
+    """An order's bytes as the library takes them, and what words about it need."""
+    name: str
+    data: bytes
+    lines: tuple[int, ...] = ()  # of a text: the line of each record
+    clock: bool = True  # its times are said as Mon 06:30, and not in seconds
+
+    @cached_property
+    def records(self) -> list:
+        return read_records(self.data)
+
+    @cached_property
+    def places(self) -> list[int]:
+        """The record of each dose."""
+        return [at for at, record in enumerate(self.records) if isinstance(record, Dose)]
+
+    @cached_property
+    def doses(self) -> list[Dose]:
+        return [self.records[at] for at in self.places]
+
+    @cached_property
+    def fans(self) -> list[Fans]:
+        return [record for record in self.records if isinstance(record, Fans)]
+
+    def bytes_at(self, at: int) -> bytes:
+        return self.data[RECORD * at:RECORD * (at + 1)]
+
+    def place(self, at: int) -> str:
+        """Where a record stands, for people."""
+        return f"line {self.lines[at]}" if self.lines else f"record {at}"
+
+    def time(self, moment, closing: bool = False) -> str:
+        return clock(moment, closing=closing) if self.clock else plain(moment)
+
+    def cell(self, column: str, value: int) -> str:
+        """A value as the text has it."""
+        return self.time(value, column == "done") if column in TIMES else str(value)
+
+
+def read_bytes(name: str) -> bytes:
+    try:
+        return Path(name).read_bytes()
+    except (OSError, ValueError):
+        raise Wrong(f"can't read {name}") from None
+
+
+def read_order(name: str) -> Order:
+    """An order from a file: a text where its name ends in .csv, else bytes."""
+    data = read_bytes(name)
+    if not name.lower().endswith(".csv"):
+        return Order(name, data)
+    try:
+        return read_text(name, data.decode("utf-8-sig", errors="replace"))
+    except Wrong as wrong:
+        raise Wrong(f"{name}: {wrong}") from None
+
+
+def read_text(name: str, text: str) -> Order:
+    lines = io.StringIO(text, newline="").readlines()
+    parting = max(",;\t", key=next(filter(str.strip, lines), "").count)  # what parts the header's cells parts all
+    rows = csv.reader(lines, delimiter=parting)
+    columns, records, places, in_clock = None, [], [], False
+    for cells in ([cell.strip() for cell in row] for row in rows):
+        line = rows.line_num - sum(cell.count("\n") for cell in cells)
+        if any(cells) and columns is None:
+            columns = header(line, cells)
+        elif any(cells):
+            row = row_of(line, columns, cells)
+            records.append(record_of(line, row))
+            places.append(line)
+            in_clock |= any(":" in row.get(column, "") for column in TIMES)
+    if columns is None:
+        raise wrong(1, "row", f"no header; it names the columns {', '.join(COLUMNS)}")
+    in_clock |= not any(isinstance(record, Dose) for record in records)
+    return Order(name, b"".join(map(write_record, records)), tuple(places), in_clock)
+
+
+def write_text(order: Order) -> str:
+    """The text of an order whose records the reader takes."""
+    out = io.StringIO()
+    rows = csv.DictWriter(out, COLUMNS, restval="", lineterminator="\n")
+    rows.writeheader()
+    for record in order.records:
+        name, columns = ROWS[type(record)]
+        cells = {column: order.cell(column, value) for column, value in zip(columns, astuple(record))}
+        rows.writerow({"row": name, **cells})
+    return out.getvalue()
+
+
+def wrong(line: int, column: str | int, what: str) -> Wrong:
+    return Wrong(f"line {line}, column {column}: {what}")
+
+
+def out_of_range(line: int, column: str, value: str) -> Wrong:
+    return wrong(line, column, f"{value} is out of range: {RANGES[column]}")
+
+
+def header(line: int, cells: list[str]) -> list[str]:
+    names = [" ".join(cell.lower().split()) for cell in cells]
+    for at, name in enumerate(names):
+        if name and name not in COLUMNS:
+            raise wrong(line, at + 1, f"{cells[at]!r} is none of the columns {', '.join(COLUMNS)}")
+        if name and name in names[:at]:
+            raise wrong(line, at + 1, f"{name!r} is there twice")
+    return names
+
+
+def row_of(line: int, columns: list[str], cells: list[str]) -> dict[str, str]:
+    """The cells that hold anything, by their columns."""
+    row = {}
+    for at, cell in enumerate(cells):
+        if cell and (at >= len(columns) or not columns[at]):
+            raise wrong(line, at + 1, f"{cell!r} stands under no name")
+        if cell:
+            row[columns[at]] = cell
+    return row
+
+
+def record_of(line: int, row: dict[str, str]) -> Fans | Dose:
+    name = row.pop("row", "")
+    if name.lower() not in KINDS:
+        raise wrong(line, "row", f"{name!r} is neither {' nor '.join(KINDS)}")
+    kind = KINDS[name.lower()]
+    columns = ROWS[kind][1]
+    for column in row:
+        if column not in columns:
+            raise wrong(line, column, f"{row[column]!r} is not for a row of {name}")
+    sizes = (size for _, size in LAYOUT[kind][1])
+    return kind(*(value_of(line, column, row.get(column, ""), size) for column, size in zip(columns, sizes)))
+
+
+def value_of(line: int, column: str, cell: str, size: int) -> int:
+    value = seconds_in(cell) if column in TIMES else whole_in(cell)
+    if not cell:
+        raise wrong(line, column, "nothing is there")
+    if value is None:
+        what = "time: write Mon 06:30, Mon 06:30:15 or a second of the week" if column in TIMES else "whole number"
+        raise wrong(line, column, f"{cell!r} is no {what}")
+    if value >> 8 * size:
+        raise out_of_range(line, column, cell)
+    return value

@@ -1,0 +1,95 @@
+"""A plan that stands, by fan and by dose, and the checks without which no sheet is written."""
+from __future__ import annotations
+
+from dataclasses import dataclass, replace
+from fractions import Fraction
+from functools import cached_property
+from math import ceil, floor
+
+from .library import DOSING, Class, Drawn, Fans, Library, Slot, read_records
+from .orders import Order
+
+
+class Differs(Exception):
+    """The library's answers and what would be drawn don't agree."""
+
+
+@dataclass(frozen=True)
+class Plan:
+    """An order and plan bytes that stand for it."""
+    order: Order
+    data: bytes
+    library: Library
+
+    def point(self, dose: int, tick: int) -> Drawn:
+        return self.library.point(self.order.data, self.data, dose, tick)
+
+    @property
+    def fans(self) -> Fans:
+        return self.order.fans[0]
+
+    @cached_property
+    def classes(self) -> list[Class]:
+        return [record for record in read_records(self.data) if isinstance(record, Class)]
+
+    @cached_property
+    def slots(self) -> list[Slot]:
+        return [record for record in read_records(self.data) if isinstance(record, Slot)]
+
+    def class_of(self, slot: Slot) -> Class:
+        return self.classes[slot.class_number - 1]
+
+    def doses_in(self, number: int) -> list[int]:
+        """The doses of a class, as its slots name them."""
+        return sorted({slot.dose for slot in self.slots if slot.class_number == number})
+
+    def of_fan(self, fan: int) -> list[Slot]:
+        return joined([slot for slot in self.slots if slot.fan == fan])
+
+    def of_dose(self, dose: int) -> list[Slot]:
+        return joined([slot for slot in self.slots if slot.dose == dose])
+
+    def waits(self, dose: int) -> list[tuple[Fraction, Fraction, Fraction]]:
+        """The stretches of a dose's window before its last slot in which it has no fan, with the slowest rate of a fan.
+
+        Checked: every fan runs all the while, at the dose's rate or above."""
+        found, at = [], Fraction(self.order.doses[dose].release)
+        for slot in self.of_dose(dose):
+            if slot.start > at:
+                busy = [other for other in self.slots if other.start < slot.start and other.end > at]
+                fed = sum(min(other.end, slot.start) - max(other.start, at) for other in busy)
+                slowest = min((self.class_of(other).rate for other in busy), default=0)
+                if fed != self.fans.count * (slot.start - at) or slowest < self.class_of(slot).rate:
+                    raise Differs(f"dose {dose} is idle from {at} to {slot.start} with a fan free or slower")
+                found.append((at, slot.start, slowest))
+            at = slot.end
+        return found
+
+    def points(self, dose: int, most: int) -> list[tuple[int, Drawn]]:
+        """The dose as the library draws it: at its window's ends, at slot edges and at about so many ticks between.
+
+        Checked: its fan is that of the bar there."""
+        window, slots = self.order.doses[dose], self.of_dose(dose)
+        step = max(1, ceil(sum(slot.end - slot.start for slot in slots) / most))
+        ticks = {window.release, window.deadline}
+        for slot in slots:
+            ticks.update((floor(slot.start), floor(slot.end), ceil(slot.end)))
+            ticks.update(range(ceil(slot.start), ceil(slot.end), step))
+        found = [(tick, self.point(dose, tick)) for tick in sorted(ticks)]
+        for tick, point in found:
+            fans = [point.fan] if point.state == DOSING else []
+            if point.number or fans != [slot.fan for slot in slots if slot.start <= tick < slot.end]:
+                raise Differs(f"dose {dose} at tick {tick}: the library's point and the bars differ")
+        return found
+
+
+def joined(slots: list[Slot]) -> list[Slot]:
+    """Slots in time order, made one where they touch and are of one dose and fan."""
+    found: list[Slot] = []
+    for slot in sorted(slots, key=lambda slot: slot.start):
+        last = found[-1] if found else None
+        if last and (last.end, last.dose, last.fan) == (slot.start, slot.dose, slot.fan):
+            found[-1] = replace(last, end_tick=slot.end_tick, end_part=slot.end_part)
+        else:
+            found.append(slot)
+    return found

@@ -1,0 +1,114 @@
+"""The sheet: one page of a plan, or of why an order is refused."""
+from __future__ import annotations
+
+from collections.abc import Iterable
+from html import escape
+from pathlib import Path
+
+from .drawing import Axis, shared, times
+from .figures import count, rate, span
+from .library import RECORD, Class
+from .orders import Order
+from .plans import Plan
+from .rows import Row, Rows, strength, window_row
+from .words import FACTS, Refusal, sentence
+
+STYLES = {name: Path(__file__).with_name(f"{name}.css").read_text("utf-8") for name in ("drawing", "page")}
+LEAD = """<p><b>Each gram on a line has a fan behind it.</b> A line rises only above a bar, and the number in the bar is
+the fan that feeds it. Hatched: the dose waits, because every fan runs at its rate or faster. Grey: outside its window.
+Strong bars run fast, pale ones slowly.</p>"""
+PROVED = """<footer><b>Proved</b> are the verdict, the classes with their grams and fan-seconds, every slot, and every
+point of a line: they are answers of the proved library, and the page is not written where its bars and lines don't
+agree with them. <b>Not proved but tested</b> are the words, the drawing, times of day, sums, and rates as decimals,
+which are cut and not rounded. A line holds each point until the next, so that it is never above the amount.</footer>"""
+REFUSED = """<footer><b>Proved</b> is the refusal: its number, the record or the doses it names, their grams and
+fan-seconds are the answer of the proved library. <b>Not proved but tested</b> are the words and the drawing.</footer>"""
+
+
+def page(title: str, facts: list[tuple[str, object]], body: str) -> str:
+    pairs = "".join(f"<div><dt>{name}<dd>{words}</div>" for name, words in facts)
+    return ('<!DOCTYPE html>\n<html lang="en"><meta charset="utf-8"><meta name="viewport" content="width=device-width">'
+            f"<title>{title}</title>\n<style>{STYLES['drawing']}{STYLES['page']}</style>\n"
+            f"<main><header><h1>{title}</h1><dl>{pairs}</dl></header>\n{body}</main></html>\n")
+
+
+def html_row(row: Row) -> str:
+    strong, plain, small = row.label
+    label = f"<b>{strong}</b> {plain}<br><small>{small}</small>"
+    return (f'<div class="row {row.kind}"><div class="label" title="{row.words}">{label}</div><svg role="img" aria-label='
+            f'"{row.words}"><rect class="shut" width="100%" height="100%"/>{row.drawing}</svg></div>\n')
+
+
+def section(axis: Axis, word: str, rows: Iterable[Row], kind: str = "") -> str:
+    found = [html_row(row) for row in rows]
+    head = f'<h2 class="label">{count(len(found), word)}</h2><svg aria-hidden="true">{times(axis)}</svg>'
+    return (f'<section class="{kind}" data-scale="{axis.scale()}"><div class="row axis">{head}</div>\n'
+            f'{"".join(found)}</section>\n')
+
+
+def title_of(plan: Plan) -> str:
+    return f"{Path(plan.order.name).stem}: {count(len(plan.order.doses), 'dose')} on {count(plan.fans.count, 'fan')}"
+
+
+def planned_page(plan: Plan) -> str:
+    classes = plan.classes
+    facts = [("judge", "<b>&#10003; stands</b>"), ("CO&#8322;", f"{sum(own.grams for own in classes):,} g"),
+             ("fan time", f"{sum(own.time for own in classes):,} fan-seconds"), ("classes", len(classes)),
+             ("slots", f"{len(plan.slots):,}"), ("first class", rate(classes[0].rate) if classes else "none"),
+             ("top rate", rate(plan.fans.top_rate))]
+    body = drawn(plan) if classes else f"<p>No dose is ordered, and no fan runs.</p>{PROVED}"
+    return page(escape(title_of(plan)), facts, body)
+
+
+def drawn(plan: Plan) -> str:
+    rows = Rows.of(plan, 200)
+    return (f'{LEAD}<svg class="defs" aria-hidden="true">{shared(rows.axis)}</svg>\n'
+            + section(rows.axis, "fan", map(rows.fan, range(1, plan.fans.count + 1)))
+            + section(rows.axis, "dose", map(rows.dose, range(len(plan.order.doses))))
+            + class_tables(plan.classes) + PROVED + lists(plan, rows.axis))
+
+
+def class_tables(classes: list[Class]) -> str:
+    """Side by side, so that 24 classes leave room for 24 doses on one sheet of paper."""
+    rows = [f'<tr><td><i style="opacity:{strength(classes, own.number):.2f}"></i>{own.number}<td>{rate(own.rate)}'
+            f"<td>{own.doses}<td>{own.grams:,}<td>{own.time:,}" for own in classes]
+    most = -(-len(rows) // (2 if len(rows) < 13 else 3))
+    head = "<tr><th>class<th>rate<th>doses<th>grams<th>fan-seconds"
+    tables = "".join(f"<table>{head}{''.join(rows[at:at + most])}</table>" for at in range(0, len(rows), most))
+    return (f'<section class="row classes"><h2>{count(len(rows), "class")}</h2>'
+            f'<div class="tables">{tables}</div></section>\n')
+
+
+def lists(plan: Plan, axis: Axis) -> str:
+    """What each fan feeds, in words: on paper the short slots have no other."""
+    out = []
+    for fan in range(1, plan.fans.count + 1):
+        lines = "".join(f"<li>{span(slot.start, slot.end, axis.days)} <b>bay {plan.order.doses[slot.dose].bay}</b> "
+                        f"dose {slot.dose}" for slot in plan.of_fan(fan))
+        out.append(f"<h3>fan {fan}</h3><ol>{lines or '<li>nothing'}</ol>")
+    return f'<section class="feeds"><h2>What each fan feeds</h2><div class="lists">{"".join(out)}</div></section>\n'
+
+
+def refused_page(refusal: Refusal, order: Order) -> str:
+    answer, detail = refusal.answer, "".join(f"<p>{escape(sentence(words))}</p>" for words in refusal.detail)
+    title = "Refused: this plan does not stand" if answer.number == 10 else "Refused: no plan for this order"
+    facts = [("order", escape(Path(order.name).name)), ("refusal", answer.number),
+             ("what is wrong", f"<b>{FACTS[answer.number]}</b>")]
+    return page(title, facts, detail + wrong_record(refusal, order) + named_windows(refusal, order) + REFUSED)
+
+
+def wrong_record(refusal: Refusal, order: Order) -> str:
+    if refusal.answer.number not in (3, 4, 5):
+        return ""
+    cells = "".join(f'<td{" class=wrong" if at in refusal.wrong_bytes else ""}>{byte:02x}'
+                    for at, byte in enumerate(order.bytes_at(refusal.answer.place)))
+    heads = "".join(f"<th>{at}" for at in range(RECORD))
+    return f'<section><h2>Its bytes, in hexadecimal</h2><table class="bytes"><tr>{heads}<tr>{cells}</table></section>\n'
+
+
+def named_windows(refusal: Refusal, order: Order) -> str:
+    if not refusal.doses:
+        return ""
+    axis = Axis(moment for dose in order.doses for moment in (dose.release, dose.deadline))
+    rows = (window_row(axis, number, order.doses[number]) for number in refusal.doses)
+    return f'<svg class="defs" aria-hidden="true">{shared(axis)}</svg>\n' + section(axis, "dose", rows, "named")
