@@ -13,6 +13,7 @@ WIDE, TALL = 20000, 1000  # units of the box that a line is drawn in
 NARROW, MIDDLE, BROAD = 470, 660, 900  # pixels of time axis that labels are fitted to
 STEPS = (1, 2, 5, 10, 15, 30, 60, 120, 300, 600, 900, 1800, 3600, 7200, 10800, 21600, 43200, DAY)
 APART = 54  # pixels between two times on the axis
+LEAST = Fraction(1, 10**10)  # of the width: a box without any is not drawn, and neither is its edge
 LINE, BARS = 54, 62  # percent of a dose's row: how high its line is, and where its bars begin
 
 
@@ -63,13 +64,14 @@ def crowded(edges: list[Fraction]) -> tuple[int, int, float]:
     return found
 
 
-def percent(part: Fraction | float) -> str:
-    return f"{float(100 * part):.3f}".rstrip("0").rstrip(".") + "%"
+def percent(part: Fraction | int) -> str:
+    return f"{float(100 * part):.{3 if part == 0 or part > 0.0001 else 8}f}".rstrip("0").rstrip(".") + "%"
 
 
 def box(axis: Axis, start, end, kind: str, title: str = "", more: str = 'height="100%"') -> str:
     left, shown = axis.at(start), f"<title>{escape(title)}</title>" if title else ""
-    return f'<rect class="{kind}" x="{percent(left)}" width="{percent(axis.at(end) - left)}" {more}>{shown}</rect>'
+    width = percent(max(axis.at(end) - left, LEAST))
+    return f'<rect class="{kind}" x="{percent(left)}" width="{width}" {more}>{shown}</rect>'
 
 
 def rule(part: Fraction, kind: str, top: str = "0") -> str:

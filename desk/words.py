@@ -64,7 +64,8 @@ def check(answer: Answer, order: Order, library: Library) -> None:
               11: [f"this order has {count(len(order.doses), 'dose')}, numbered from 0"]}.get(number, [])
     if number in (3, 4, 5):
         said, wrong_bytes = {3: wrong_kind, 4: wrong_zeros, 5: wrong_fields}[number](order, answer.place, library)
-        detail = [f"{order.place(answer.place)}{'' if order.lines else ', counted from 0'}: {said}"]
+        dose = f", dose {order.places.index(answer.place)}" if answer.place in order.places else ""
+        detail = [f"{order.place(answer.place)}, counted from 0{dose}: {said}"]
     elif number == 8:
         detail, doses = overlap(order, order.places.index(answer.place), library)
     elif number == 9:
