@@ -1,6 +1,6 @@
 """The proved library as include/knellgable.h declares it, and the records of docs/RULES.md by name.
 
-Numbers come back as the library answered them: nothing is worked out here.
+Numbers come back as the library answered them; rates and moments are exact fractions of them.
 """
 from __future__ import annotations
 
@@ -11,7 +11,8 @@ from functools import cached_property
 from pathlib import Path
 
 RECORD, PLAN_ROOM, WEEK = 32, 47392, 604800
-FINISHED, SHUT, IDLE, DOSING = range(4)
+STATES = ("finished", "shut", "idle", "dosing")
+IDLE, DOSING = STATES.index("idle"), STATES.index("dosing")
 NUMBER, SIZE, LARGE = ctypes.c_uint32, ctypes.c_size_t, ctypes.c_uint64
 WIDTHS = {"number": NUMBER, "place": SIZE, "set": LARGE, "grams": LARGE, "time": LARGE, "classes": SIZE, "slots": SIZE,
           "amount": NUMBER, "state": NUMBER, "fan": NUMBER}

@@ -4,12 +4,11 @@ from __future__ import annotations
 from textwrap import fill
 
 from .figures import count, listed, rate
-from .library import DOSING
+from .library import DOSING, STATES
 from .plans import Plan
 from .words import dose_words, window_words
 
 LINES = 24
-STATES = ("finished", "shut", "idle", "dosing")
 
 
 def plan_words(plan: Plan) -> str:
