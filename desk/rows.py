@@ -31,14 +31,15 @@ def window_row(axis: Axis, number: int, dose: Dose, small: str = "", fans: str =
     """A dose's window with its start, its grams and its deadline; the fans too, where no bar has room for theirs."""
     left, right = axis.at(dose.release), axis.at(dose.deadline)
     start, end = clock(dose.release, axis.days), clock(dose.deadline, axis.days, True)
-    halo, by = " halo" if right < 0.85 else "", f"by {end}"
+    halo, by, beside = " halo" if right < 0.85 else "", f"by {end}", f", {fans}" if fans else ""
     out = [box(axis, dose.release, dose.deadline, "open"), '<use href="#grid"/>']
     if left * NARROW > max(len(start), len(fans)) * 6 + 5:
         out += [text(left, "32%", start, "soft from halo", -5), text(left, "81%", fans, "soft from halo", -5)]
     elif width_class(start, left, right) == "":
         out.append(text(left, "15%", start, "soft inside", 4))
+        by += beside
     else:
-        by = f"{start} to {end}" + (f", {fans}" if fans else "")
+        by = f"{start} to {end}{beside}"
     out += [text(right, "32%", f"{dose.grams:,} g", "grams" + halo, 6), text(right, "73%", by, "soft" + halo, 6), more]
     words = f"bay {dose.bay}, dose {number}: {dose.grams:,} g, {span(dose.release, dose.deadline)}"
     return Row("dose", (f"bay {dose.bay}", f"dose {number}", small), "".join(out), words)
