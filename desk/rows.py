@@ -10,7 +10,7 @@ from .figures import clock, count, rate, span
 from .library import Class, Dose, Slot
 from .plans import Plan
 
-THIN = Fraction(1, 250)  # of the width: a bar that is narrower has no gap beside it, and an edge that keeps it seen
+THIN = Fraction(1, 500)  # of the width: a bar that is narrower has no gap beside it, and an edge that keeps it seen
 
 
 @dataclass(frozen=True)
@@ -32,15 +32,15 @@ def window_row(axis: Axis, number: int, dose: Dose, small: str = "", fans: str =
     left, right = axis.at(dose.release), axis.at(dose.deadline)
     start, end = clock(dose.release, axis.days), clock(dose.deadline, axis.days, True)
     halo, by, beside = " halo" if right < 0.85 else "", f"by {end}", f", {fans}" if fans else ""
-    out = [box(axis, dose.release, dose.deadline, "open"), '<use href="#grid"/>']
+    out = [box(axis, dose.release, dose.deadline, "open"), '<use href="#grid"/>', more]
     if left * NARROW > max(len(start), len(fans)) * 6 + 5:
         out += [text(left, "32%", start, "soft from halo", -5), text(left, "81%", fans, "soft from halo", -5)]
-    elif width_class(start, left, right) == "":
+    elif width_class(3 * start, left, right) == "":  # clear of a line that rises evenly
         out.append(text(left, "15%", start, "soft inside", 4))
         by += beside
     else:
         by = f"{start} to {end}{beside}"
-    out += [text(right, "32%", f"{dose.grams:,} g", "grams" + halo, 6), text(right, "73%", by, "soft" + halo, 6), more]
+    out += [text(right, "32%", f"{dose.grams:,} g", "grams" + halo, 6), text(right, "73%", by, "soft" + halo, 6)]
     words = f"bay {dose.bay}, dose {number}: {dose.grams:,} g, {span(dose.release, dose.deadline)}"
     return Row("dose", (f"bay {dose.bay}", f"dose {number}", small), "".join(out), words)
 
