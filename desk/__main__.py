@@ -9,14 +9,21 @@ import sys
 from collections.abc import Callable
 from pathlib import Path
 
-from . import build, report, sheet
+from . import report, sheet
 from .figures import whole_in
 from .library import Library
 from .orders import Order, Wrong, read_bytes, read_order, write_text
 from .plans import Differs, Plan
 from .words import Refusal, check, check_text
 
+HOME = Path(__file__).resolve().parent.parent
+LIBRARY, PRINTER = "target/staticlib/libknellgable.so", "target/bin/printer"
+need: Callable[[str], Path] = HOME.joinpath  # ./knell builds it first
 VERBS: dict[str, tuple[str, str, Callable[..., int | None]]] = {}
+
+
+def say(words: str) -> None:
+    print(f"knell: {words}", file=sys.stderr)
 
 
 def verb(use: str, does: str):
@@ -45,8 +52,8 @@ KINDS = {"ORDER": read_order, "PLAN": read_bytes, "OUT": writable, "DOSE": dose_
 
 
 def library_for(order: Order) -> Library:
-    """The library, built where need be, for an order whose text holds nothing out of range."""
-    library = Library(build.need_library())
+    """The library, for an order whose text holds nothing out of range."""
+    library = Library(need(LIBRARY))
     check_text(order, library)
     return library
 
@@ -81,7 +88,7 @@ def write(out: Path, data: bytes) -> None:
 def plan(order: Order, out: Path | None, records: bool) -> int | None:
     if records:
         library_for(order)
-        status = subprocess.run([build.PRINTER.need()], input=order.data, check=False).returncode
+        status = subprocess.run([need(PRINTER)], input=order.data, check=False).returncode
         if status or not out:
             return status
     made = plan_for(order, None)
@@ -131,21 +138,6 @@ def to_text(order: Order) -> int:
         return 1
 
 
-@verb("test", "proves everything from nothing and tests it, some 15 minutes on two cores")
-def test() -> int:
-    build.say("everything is proved from nothing and tested, some 15 minutes on two cores")
-    return build.shown("proving and testing", [".ci/run"])
-
-
-@verb("bench", "measures, and writes docs/BENCHMARKS.md, some 5 minutes")
-def bench() -> int:
-    build.PRINTER.need()
-    build.ARCHIVE.need()
-    build.say("measuring, some 5 minutes")
-    return build.shown("measuring", "cargo run --quiet --manifest-path second/Cargo.toml --profile measure --offline "
-                       "--features library -- bench 100 docs/BENCHMARKS.md".split())
-
-
 class Parser(argparse.ArgumentParser):
     """Bad use is one line."""
     def error(self, message: str):
@@ -189,12 +181,12 @@ def main() -> int:
         sys.stdout.flush()
         return status
     except (Wrong, Differs) as wrong:
-        build.say(str(wrong))
+        say(str(wrong))
     except OSError:
         os.dup2(os.open(os.devnull, os.O_WRONLY), sys.stdout.fileno())
-        build.say("can't write standard output")
+        say("can't write standard output")
     except KeyboardInterrupt:
-        build.say("stopped")
+        say("stopped")
     return 2
 
 

@@ -6,6 +6,7 @@ from __future__ import annotations
 
 import csv
 import io
+from collections.abc import Iterator
 from dataclasses import astuple, dataclass
 from functools import cached_property
 from pathlib import Path
@@ -86,23 +87,27 @@ def read_order(name: str) -> Order:
 
 
 def read_text(name: str, text: str) -> Order:
-    lines = io.StringIO(text, newline="").readlines()
-    parting = max(",;\t", key=next(filter(str.strip, lines), "").count)  # what parts the header's cells parts all
-    rows = csv.reader(lines, delimiter=parting)
-    columns, records, places, in_clock = None, [], [], False
-    for cells in ([cell.strip() for cell in row] for row in rows):
-        line = rows.line_num - sum(cell.count("\n") for cell in cells)
-        if any(cells) and columns is None:
-            columns = header(line, cells)
-        elif any(cells):
-            row = row_of(line, columns, cells)
-            records.append(record_of(line, row))
-            places.append(line)
-            in_clock |= any(":" in row.get(column, "") for column in TIMES)
-    if columns is None:
-        raise wrong(1, "row", f"no header; it names the columns {', '.join(COLUMNS)}")
-    in_clock |= not any(isinstance(record, Dose) for record in records)
-    return Order(name, b"".join(map(write_record, records)), tuple(places), in_clock)
+    rows = rows_of(text)
+    columns = header(*next(rows, (1, [])))
+    found = [(line, row_of(line, columns, cells)) for line, cells in rows]
+    data = b"".join(write_record(record_of(line, row)) for line, row in found)
+    times = [row[column] for _, row in found for column in TIMES if column in row]
+    in_seconds = bool(times) and all(map(str.isdigit, times))
+    return Order(name, data, tuple(line for line, _ in found), not in_seconds)
+
+
+def rows_of(text: str) -> Iterator[tuple[int, list[str]]]:
+    """The rows that hold anything, each with its first line; what parts the header's cells parts all."""
+    lines, before = io.StringIO(text, newline="").readlines(), 0
+    rows = csv.reader(lines, delimiter=max(",;\t", key=next(filter(str.strip, lines), "").count))
+    try:
+        for row in rows:
+            cells = [cell.strip() for cell in row]
+            if any(cells):
+                yield before + 1, cells
+            before = rows.line_num
+    except csv.Error as error:
+        raise wrong(before + 1, 1, str(error)) from None
 
 
 def write_text(order: Order) -> str:
@@ -126,6 +131,8 @@ def out_of_range(line: int, column: str, value: str) -> Wrong:
 
 
 def header(line: int, cells: list[str]) -> list[str]:
+    if not cells:
+        raise wrong(line, "row", f"no header; it names the columns {', '.join(COLUMNS)}")
     names = [" ".join(cell.lower().split()) for cell in cells]
     for at, name in enumerate(names):
         if name and name not in COLUMNS:
@@ -147,13 +154,13 @@ def row_of(line: int, columns: list[str], cells: list[str]) -> dict[str, str]:
 
 
 def record_of(line: int, row: dict[str, str]) -> Fans | Dose:
-    name = row.pop("row", "")
+    name = row.get("row", "")
     if name.lower() not in KINDS:
         raise wrong(line, "row", f"{name!r} is neither {' nor '.join(KINDS)}")
     kind = KINDS[name.lower()]
     columns = ROWS[kind][1]
     for column in row:
-        if column not in columns:
+        if column not in ("row", *columns):
             raise wrong(line, column, f"{row[column]!r} is not for a row of {name}")
     sizes = (size for _, size in LAYOUT[kind][1])
     return kind(*(value_of(line, column, row.get(column, ""), size) for column, size in zip(columns, sizes)))

@@ -1,6 +1,7 @@
 """What the tests of the desk share: the library, orders by chance, and how a run is told."""
 import io
 import struct
+import subprocess
 import sys
 import unittest
 from pathlib import Path
@@ -9,10 +10,12 @@ ROOT = Path(__file__).resolve().parent.parent
 sys.path.insert(0, str(ROOT))
 sys.dont_write_bytecode = True
 
-from desk import build, orders, plans  # noqa: E402
+from desk import orders, plans  # noqa: E402
+from desk.__main__ import LIBRARY as LIBRARY_FILE  # noqa: E402
 from desk.library import Library  # noqa: E402
 
-LIBRARY = Library(build.need_library())
+subprocess.run([ROOT / "knell", "judge", ROOT / "samples/p2.order"], check=True, stdout=subprocess.DEVNULL)  # builds it
+LIBRARY = Library(ROOT / LIBRARY_FILE)
 
 
 def fans_bytes(count=2, grams=3, seconds=1):
