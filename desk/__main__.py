@@ -53,7 +53,10 @@ KINDS = {"ORDER": read_order, "PLAN": read_bytes, "OUT": writable, "DOSE": dose_
 
 def library_for(order: Order) -> Library:
     """The library, for an order whose text holds nothing out of range."""
-    library = Library(need(LIBRARY))
+    try:
+        library = Library(need(LIBRARY))
+    except OSError:
+        raise Wrong(f"can't load {LIBRARY}") from None
     check_text(order, library)
     return library
 

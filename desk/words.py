@@ -5,7 +5,7 @@ from dataclasses import astuple, dataclass
 from fractions import Fraction
 
 from .figures import count, decimal, listed
-from .library import RECORD, WEEK, Answer, Dose, Fans, Library, write_record
+from .library import LAYOUT, RECORD, WEEK, Answer, Dose, Fans, Library, write_record
 from .orders import RANGES, ROWS, Order, Wrong, out_of_range
 
 FACTS = {
@@ -86,28 +86,31 @@ def wrong_zeros(order: Order, at: int, library: Library) -> tuple[str, list[int]
 
 
 def wrong_fields(order: Order, at: int, library: Library) -> tuple[str, list[int]]:
-    found = fields_out_of_range(order, at, library)
-    return "; ".join(f"{column} is {value:,}, and may be {RANGES[column]}" for column, value in found), []
+    record, found = order.records[at], fields_out_of_range(order.records[at], library)
+    columns, places = ROWS[type(record)][1], LAYOUT[type(record)][1]
+    said = [f"{columns[i]} is {astuple(record)[i]:,}, and may be {RANGES[columns[i]]}" for i in found]
+    return "; ".join(said), [place + more for place, size in (places[i] for i in found) for more in range(size)]
 
 
-def fields_out_of_range(order: Order, at: int, library: Library) -> list[tuple[str, int]]:
+def fields_out_of_range(record: Dose | Fans, library: Library) -> list[int]:
     """The fields that are refused 5 each alone in a good record; else the last one that, made good, mends its own."""
-    kind = type(order.records[at])
-    own, good = astuple(order.records[at]), astuple(GOOD[kind])
+    kind, own, good = type(record), astuple(record), astuple(GOOD[type(record)])
 
     def refused(*values: int) -> bool:
         return library.judge(write_record(kind(*values))).number == 5
     alone = [i for i in range(len(own)) if refused(*good[:i], own[i], *good[i + 1:])]
     mends = [i for i in range(len(own)) if not refused(*own[:i], good[i], *own[i + 1:])]
-    return [(ROWS[kind][1][i], own[i]) for i in alone or mends[-1:]]
+    return alone or mends[-1:]
 
 
 def check_text(order: Order, library: Library) -> None:
     """A text is wrong where the library refuses a value of it as out of range."""
     answer = library.judge(order.data)
     if order.lines and answer.number == 5:
-        column, value = fields_out_of_range(order, answer.place, library)[0]
-        words = out_of_range(order.lines[answer.place], column, order.cell(column, value))
+        record = order.records[answer.place]
+        field = fields_out_of_range(record, library)[0]
+        column = ROWS[type(record)][1][field]
+        words = out_of_range(order.lines[answer.place], column, order.cell(column, astuple(record)[field]))
         raise Wrong(f"{order.name}: {words}")
 
 
