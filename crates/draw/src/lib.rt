@@ -266,7 +266,7 @@ fn next_tick(tick: u32) -> u32
     if tick < WEEK {
         return tick + 1;
     }
-    604801
+    WEEK + 1
 }
 
 // "12 comes of the pen's tick before it moves", and a refusal leaves the tick as it was.
