@@ -18,8 +18,8 @@ next-class-requires c κs =
     let start = c .before .before .before .before .before in
     let A = start .args in
     let arrays = start .pre .1 in
-    let so = start .pre .2 in
-    (refl, arrays, some-remain (A .doses) (A .intervals) (A .active .now) (A .lens .now) (A .grams .now) (λ j. A .fans) (arrays .few-doses) (arrays .few-intervals) (A .tally) _ _ so (start .pre .3))
+    let remain = some-remain (A .doses) (A .intervals) (A .active .now) (A .lens .now) (A .grams .now) (λ j. A .fans) (arrays .few-doses) (arrays .few-intervals) in
+    (refl, arrays, remain (A .tally) _ _ (start .pre .2) (start .pre .3))
 
 reserve-requires : tie.Need-reserve-requires
 reserve-requires c κs = search needs
@@ -39,16 +39,20 @@ same-length c = search needs
 -- the next class with its row of the table and its shares
 returns : tie.Need-returns
 returns c =
-    let start = c .before .before .before .before .before .before .before .before .before .before .before .before .before .before .before .before .before in
+    let kept = c .before .before .before in
+    let reserved = kept .before .before .before .before in
+    let found = reserved .before .before .before .before in
+    let freed = found .before .before .before in
+    let start = freed .before .before .before in
     let A = start .args in
     let arrays = start .pre .1 in
-    let left = c .before .before .before .before .before .before .before .before .before .before .before .before .before .before .free-fans in
-    let next = c .before .before .before .before .before .before .before .before .before .before .before .next-class in
-    let row = c .before .before .before .before .before .before .before .reserve .ensures in
-    let kept = c .before .before .before .keep-shares .ensures in
+    let left = freed .free-fans in
+    let next = found .next-class in
     let after = c .after in (
-      so-far-next (A .doses) (A .intervals) (A .active .now) (A .lens .now) (A .grams .now) (λ j. A .fans) (arrays .few-doses) (arrays .few-intervals) (A .tally) _ _ (start .pre .2) (start .pre .3)
-          (left .result) (left .ensures) (next .result .members) _ (next .result .reserved) _ _ (next .ensures .measured) (next .ensures .chosen) (after .result) _ _ (after .ensures) row kept (arrays .no-interval),
+      so-far-next (A .doses) (A .intervals) (A .active .now) (A .lens .now) (A .grams .now) (λ j. A .fans) (arrays .few-doses) (arrays .few-intervals)
+          (A .tally) _ _ (start .pre .2) (start .pre .3) (left .result) (left .ensures)
+          (next .result .members) _ (next .result .reserved) _ _ (next .ensures .measured) (next .ensures .chosen)
+          (after .result) _ _ (after .ensures) (reserved .reserve .ensures) (kept .keep-shares .ensures) (arrays .no-interval),
       omega (arith, after .ensures .classed, some-size (A .doses) (setOf (next .result .members)) (next .ensures .chosen .next .some)),
     )
 

@@ -1,4 +1,4 @@
--- `Tally::after` meets its contract.
+-- `Tally::after` meets its contract: each array of the next tally is that of a function, or has one place changed.
 use Prim.Native.Nat.{ℕ, _+_}
 use mathlib.Core.Path.{_≡_, refl, ap}
 use lib.ListN.{length}
@@ -42,18 +42,27 @@ size-of-requires c κs = search needs
 add-t20 : tie.Need-add-t20
 add-t20 c = search needs
 
+-- there is a place for each class
+sized : (start : tie.Start) → let t = start .args .self in (length (t .weight) ≡ mostDoses) × (length (t .time) ≡ mostDoses)
+sized start = (search needs, search needs)
+
+-- W and P stand at the class's own place, and all else as it was
 returns : tie.Need-returns
 returns c =
-    let A = c .before .before .before .before .before .before .before .before .before .args in
+    let numbered = c .before .before .before .before in
+    let left = numbered .before .before in
+    let start = left .before .before .before in
+    let t = start .args .self in
+    let places = sized start in
     record {
       class = refl;
-      classed = ap (λ (m : ℕ). A .self .classed + m) (c .before .size-of .ensures .0);
-      remaining = c .before .before .before .before .before .before .left-of .ensures;
-      numbers = c .before .before .before .before .number-members .ensures;
-      weight = getD-set-same (A .self .weight) (A .self .class) _ 0 (let e : length (A .self .weight) ≡ mostDoses = search needs in omega (arith, c .before .before .before .before .before .before .before .before .before .pre .0));
-      time = getD-set-same (A .self .time) (A .self .class) _ 0 (let e : length (A .self .time) ≡ mostDoses = search needs in omega (arith, c .before .before .before .before .before .before .before .before .before .pre .0));
-      other-weight = λ i d. getD-set-other (A .self .weight) (A .self .class) i _ 0 d;
-      other-time = λ i d. getD-set-other (A .self .time) (A .self .class) i _ 0 d;
+      classed = ap (λ (m : ℕ). t .classed + m) (c .before .size-of .ensures .0);
+      remaining = left .left-of .ensures;
+      numbers = numbered .number-members .ensures;
+      weight = getD-set-same (t .weight) (t .class) _ 0 (omega (arith, places .0, start .pre .0));
+      time = getD-set-same (t .time) (t .class) _ 0 (omega (arith, places .1, start .pre .0));
+      other-weight = λ i d. getD-set-other (t .weight) (t .class) i _ 0 d;
+      other-time = λ i d. getD-set-other (t .time) (t .class) i _ 0 d;
     }
 
 pub after-spec : {M : Type 1} → statement M
