@@ -14,17 +14,17 @@ RECORD, PLAN_ROOM, WEEK = 32, 47392, 604800
 STATES = ("finished", "shut", "idle", "dosing")
 IDLE, DOSING = STATES.index("idle"), STATES.index("dosing")
 NUMBER, SIZE, LARGE = ctypes.c_uint32, ctypes.c_size_t, ctypes.c_uint64
-WIDTHS = {"number": NUMBER, "place": SIZE, "set": LARGE, "grams": LARGE, "time": LARGE, "classes": SIZE, "slots": SIZE,
+WIDTHS = {"number": NUMBER, "place": SIZE, "set": LARGE, "weight": LARGE, "time": LARGE, "classes": SIZE, "slots": SIZE,
           "amount": NUMBER, "state": NUMBER, "fan": NUMBER}
 
 
 @dataclass(frozen=True)
 class Answer:
-    """0 or a refusal's number, its place and, for 9, the first class as a set with its grams and fan time."""
+    """0 or a refusal's number, its place and, for 9, the first class as a set with its weight and fan time."""
     number: int
     place: int
     set: int
-    grams: int
+    weight: int
     time: int
 
 
@@ -104,12 +104,12 @@ class Dose:
 class Class:
     number: int
     doses: int
-    grams: int
+    weight: int
     time: int
 
     @cached_property
     def rate(self) -> Fraction:
-        return Fraction(self.grams, self.time)
+        return Fraction(self.weight, self.time)
 
 
 @dataclass(frozen=True)
@@ -120,18 +120,18 @@ class Slot:
     start_part: int
     end_tick: int
     end_part: int
-    grams: int
+    weight: int
     time: int
     class_number: int
 
     @cached_property
     def start(self) -> Fraction:
         """A moment is a tick and a part of it in 1/W."""
-        return self.start_tick + Fraction(self.start_part, self.grams)
+        return self.start_tick + Fraction(self.start_part, self.weight)
 
     @cached_property
     def end(self) -> Fraction:
-        return self.end_tick + Fraction(self.end_part, self.grams)
+        return self.end_tick + Fraction(self.end_part, self.weight)
 
 
 # Each kind's first byte, then where its fields stand and how long they are: docs/RULES.md, "Records".

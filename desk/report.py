@@ -12,13 +12,13 @@ LINES = 24
 
 
 def plan_words(plan: Plan) -> str:
-    grams, time = sum(own.grams for own in plan.classes), sum(own.time for own in plan.classes)
+    weight, time = sum(own.weight for own in plan.classes), sum(own.time for own in plan.classes)
     top = f"{count(plan.fans.count, 'fan')}, top rate {rate(plan.fans.top_rate)}"
     sizes = f"{count(len(plan.classes), 'class')}, {count(len(plan.slots), 'slot')}"
-    words = [f"{count(len(plan.order.doses), 'dose')} on {top}: {grams:,} g in {time:,} fan-seconds, {sizes}", ""]
+    words = [f"{count(len(plan.order.doses), 'dose')} on {top}: {weight:,} g in {time:,} fan-seconds, {sizes}", ""]
     for own in plan.classes:
         doses = listed([dose_words(plan.order, dose) for dose in plan.doses_in(own.number)])
-        words += [f"class {own.number}: {rate(own.rate)}, which is {own.grams:,} g in {own.time:,} fan-seconds",
+        words += [f"class {own.number}: {rate(own.rate)}, which is {own.weight:,} g in {own.time:,} fan-seconds",
                   fill(doses, 100, initial_indent="  ", subsequent_indent="  ")]
     for fan in range(1, plan.fans.count + 1):
         words += ["", f"fan {fan} feeds", *(fan_lines(plan, fan) or ["  nothing"])]

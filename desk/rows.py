@@ -79,11 +79,11 @@ class Rows:
         kind = f"bar h{slot.dose % 3}" + (" thin" if thin else "")
         shade = " strong" if strong > 0.75 else " weak" if strong <= 0.5 else ""
         fill = f'y="{top}%" height="{100 - top}%" opacity="{strong:.2f}"'
-        ends = " to ".join(f"tick {tick}" + (f" + {part}/{slot.grams}" if part else "")
+        ends = " to ".join(f"tick {tick}" + (f" + {part}/{slot.weight}" if part else "")
                            for tick, part in ((slot.start_tick, slot.start_part), (slot.end_tick, slot.end_part)))
         words = (f"fan {slot.fan} feeds bay {self.plan.order.doses[slot.dose].bay} (dose {slot.dose})\n"
                  f"{span(slot.start, slot.end)}\n{ends}\n"
-                 f"{rate(own.rate)}, class {own.number}: {own.grams:,} g in {own.time:,} fan-seconds")
+                 f"{rate(own.rate)}, class {own.number}: {own.weight:,} g in {own.time:,} fan-seconds")
         return (box(self.axis, slot.start, slot.end, "feel", words)
                 + box(self.axis, slot.start, slot.end, kind, more=fill)
                 + ("" if thin else rule(left, "cut", f"{top}%"))

@@ -52,7 +52,7 @@ def title_of(plan: Plan) -> str:
 
 def planned_page(plan: Plan) -> str:
     classes = plan.classes
-    facts = [("judge", "<b>&#10003; stands</b>"), ("CO&#8322;", f"{sum(own.grams for own in classes):,} g"),
+    facts = [("judge", "<b>&#10003; stands</b>"), ("CO&#8322;", f"{sum(own.weight for own in classes):,} g"),
              ("fan time", f"{sum(own.time for own in classes):,} fan-seconds"), ("classes", len(classes)),
              ("slots", f"{len(plan.slots):,}"), ("first class", rate(classes[0].rate) if classes else "none"),
              ("top rate", rate(plan.fans.top_rate))]
@@ -71,7 +71,7 @@ def drawn(plan: Plan) -> str:
 def class_tables(classes: list[Class]) -> str:
     """Side by side, so that 24 classes leave room for 24 doses on one sheet of paper."""
     rows = [f'<tr><td><i style="opacity:{strength(classes, own.number):.2f}"></i>{own.number}<td>{rate(own.rate)}'
-            f"<td>{own.doses}<td>{own.grams:,}<td>{own.time:,}" for own in classes]
+            f"<td>{own.doses}<td>{own.weight:,}<td>{own.time:,}" for own in classes]
     most = -(-len(rows) // (2 if len(rows) < 13 else 3))
     head = "<tr><th>class<th>rate<th>doses<th>grams<th>fan-seconds"
     tables = "".join(f"<table>{head}{''.join(rows[at:at + most])}</table>" for at in range(0, len(rows), most))

@@ -125,12 +125,12 @@ def overlap(order: Order, dose: int, library: Library) -> tuple[list[str], list[
 def too_fast(answer: Answer, order: Order) -> tuple[list[str], list[int]]:
     """The doses of the first class, and its W grams in P fan-seconds against the top rate."""
     doses = [dose for dose in range(len(order.doses)) if answer.set >> dose & 1]
-    top, grams, time = order.fans[0], answer.grams, answer.time
-    rates = [[decimal(rate, digits) for rate in (Fraction(grams, time), top.top_rate)] for digits in range(3, 20)]
+    top, weight, time = order.fans[0], answer.weight, answer.time
+    rates = [[decimal(rate, digits) for rate in (Fraction(weight, time), top.top_rate)] for digits in range(3, 20)]
     need, most = next((pair for pair in rates if pair[0] != pair[1]), rates[-1])
     named = listed([dose_words(order, dose) for dose in doses])
-    return [f"{named} {'together need' if len(doses) > 1 else 'needs'} {grams:,} g in {time:,} fan-seconds, "
+    return [f"{named} {'together need' if len(doses) > 1 else 'needs'} {weight:,} g in {time:,} fan-seconds, "
             "all that windows and fans can give",
             f"that is {need} g/s, and the top rate is {most} g/s",
-            f"to check: {grams:,} x {top.top_seconds:,} = {grams * top.top_seconds:,} is above "
+            f"to check: {weight:,} x {top.top_seconds:,} = {weight * top.top_seconds:,} is above "
             f"{time:,} x {top.top_grams:,} = {time * top.top_grams:,}"], doses
