@@ -9,12 +9,12 @@ import sys
 from collections.abc import Callable
 from pathlib import Path
 
-from . import report, sheet
+from . import sheet
 from .figures import whole_in
 from .library import Library
 from .orders import Order, Wrong, read_bytes, read_order, write_text
 from .plans import Differs, Plan
-from .words import Refusal, check, check_text
+from .words import Refusal, check, check_text, line_words, plan_words
 
 HOME = Path(__file__).resolve().parent.parent
 LIBRARY, PRINTER = "target/staticlib/libknellgable.so", "target/bin/printer"
@@ -98,7 +98,7 @@ def plan(order: Order, out: Path | None, records: bool) -> int | None:
     if out:
         write(out, made.data)
     if not records:
-        print(report.plan_words(made))
+        print(plan_words(made))
     return None
 
 
@@ -112,7 +112,7 @@ def judge(order: Order, plan: bytes | None) -> None:
 def draw(order: Order, dose: int, plan: bytes | None) -> None:
     made = plan_for(order, plan)
     check(made.point(dose, 0), order, made.library)
-    print(report.line_words(made, dose))
+    print(line_words(made, dose))
 
 
 @verb("sheet ORDER [PLAN] OUT.html", "writes the page of a plan, or of a refusal")

@@ -1,12 +1,17 @@
-"""Every refusal in words, with the records or doses it names. What is wrong where is asked of the library."""
+"""Plans and lines in words, in the times that the order is written in, and every refusal with what it names.
+
+What is wrong where is asked of the library.
+"""
 from __future__ import annotations
 
 from dataclasses import astuple, dataclass
 from fractions import Fraction
+from textwrap import fill
 
-from .figures import count, decimal, listed
-from .library import LAYOUT, RECORD, WEEK, Answer, Dose, Fans, Library, write_record
+from .figures import count, decimal, listed, rate
+from .library import DOSING, LAYOUT, RECORD, STATES, WEEK, Answer, Dose, Fans, Library, write_record
 from .orders import RANGES, ROWS, Order, Wrong, out_of_range
+from .plans import Plan
 
 FACTS = {
     1: "The room for the plan is under 47,392 bytes.",
@@ -22,6 +27,7 @@ FACTS = {
     11: "There is no such dose.",
     12: "The second is past the week.",
 }
+LINES = 24  # of a dose in words
 GOOD = {Dose: Dose(1, 0, WEEK, 1), Fans: Fans(1, 1, 1)}
 
 
@@ -126,7 +132,7 @@ def too_fast(answer: Answer, order: Order) -> tuple[list[str], list[int]]:
     """The doses of the first class, and its W grams in P fan-seconds against the top rate."""
     doses = [dose for dose in range(len(order.doses)) if answer.set >> dose & 1]
     top, weight, time = order.fans[0], answer.weight, answer.time
-    rates = [[decimal(rate, digits) for rate in (Fraction(weight, time), top.top_rate)] for digits in range(3, 20)]
+    rates = [[decimal(exact, digits) for exact in (Fraction(weight, time), top.top_rate)] for digits in range(3, 20)]
     need, most = next((pair for pair in rates if pair[0] != pair[1]), rates[-1])
     named = listed([dose_words(order, dose) for dose in doses])
     return [f"{named} {'together need' if len(doses) > 1 else 'needs'} {weight:,} g in {time:,} fan-seconds, "
@@ -134,3 +140,37 @@ def too_fast(answer: Answer, order: Order) -> tuple[list[str], list[int]]:
             f"that is {need} g/s, and the top rate is {most} g/s",
             f"to check: {weight:,} x {top.top_seconds:,} = {weight * top.top_seconds:,} is above "
             f"{time:,} x {top.top_grams:,} = {time * top.top_grams:,}"], doses
+
+
+def plan_words(plan: Plan) -> str:
+    weight, time = sum(own.weight for own in plan.classes), sum(own.time for own in plan.classes)
+    top = f"{count(plan.fans.count, 'fan')}, top rate {rate(plan.fans.top_rate)}"
+    sizes = f"{count(len(plan.classes), 'class')}, {count(len(plan.slots), 'slot')}"
+    words = [f"{count(len(plan.order.doses), 'dose')} on {top}: {weight:,} g in {time:,} fan-seconds, {sizes}", ""]
+    for own in plan.classes:
+        doses = listed([dose_words(plan.order, dose) for dose in plan.doses_in(own.number)])
+        words += [f"class {own.number}: {rate(own.rate)}, which is {own.weight:,} g in {own.time:,} fan-seconds",
+                  fill(doses, 100, initial_indent="  ", subsequent_indent="  ")]
+    for fan in range(1, plan.fans.count + 1):
+        words += ["", f"fan {fan} feeds", *(fan_lines(plan, fan) or ["  nothing"])]
+    return "\n".join(words)
+
+
+def fan_lines(plan: Plan, fan: int) -> list[str]:
+    slots = plan.of_fan(fan)
+    times = [(plan.order.time(slot.start), plan.order.time(slot.end, True)) for slot in slots]
+    width = max((len(time) for pair in times for time in pair), default=0)
+    return [f"  {start:{width}} to {end:{width}}  {dose_words(plan.order, slot.dose)} "
+            f"at {rate(plan.class_of(slot).rate)}" for (start, end), slot in zip(times, slots)]
+
+
+def line_words(plan: Plan, dose: int) -> str:
+    """The dose at some seconds of its window, its first and its last among them."""
+    window = plan.order.doses[dose]
+    step = -(-(window.deadline - window.release) // LINES)
+    words = [window_words(plan.order, dose)]
+    for tick in [*range(window.release, window.deadline, step), window.deadline]:
+        point, time = plan.point(dose, tick), plan.order.time(tick, tick == window.deadline)
+        by = f" by fan {point.fan}" if point.state == DOSING else ""
+        words.append(f"  {time:12}  {point.amount:>9,} g  {STATES[point.state]}{by}")
+    return "\n".join(words)
