@@ -24,14 +24,13 @@ point of a line: they are answers of the proved library, and the page is not wri
 agree with them. <b>Not proved but tested</b> are the words, the drawing, times of day, sums, and rates as decimals,
 which are cut and not rounded. A line holds each point until the next, so that it is never above the amount.</footer>"""
 REFUSED = """<footer><b>Proved</b> is the refusal: its number, the record or the doses it names, their grams and
-fan-seconds are the answer of the proved library. <b>Not proved but tested</b> are the words and the drawing.</footer>"""
+fan-seconds are answers of the proved library. <b>Not proved but tested</b> are the words and the drawing.</footer>"""
 THIN = Fraction(1, 500)  # of the width: a bar that is narrower has no gap beside it, and an edge that keeps it seen
 
 
 @dataclass(frozen=True)
 class Row:
     """A label (strong, plain, small), a drawing over the time axis, and the same in words."""
-    kind: str
     label: tuple[str, str, str]
     drawing: str
     words: str
@@ -57,27 +56,22 @@ def window_row(axis: Axis, number: int, dose: Dose, small: str = "", fans: str =
         by = f"{start} to {end}{beside}"
     out += [text(right, "32%", f"{dose.grams:,} g", "grams" + halo, 6), text(right, "73%", by, "soft" + halo, 6)]
     words = f"bay {dose.bay}, dose {number}: {dose.grams:,} g, {span(dose.release, dose.deadline)}"
-    return Row("dose", (f"bay {dose.bay}", f"dose {number}", small), "".join(out), words)
+    return Row((f"bay {dose.bay}", f"dose {number}", small), "".join(out), words)
 
 
-@dataclass(frozen=True)
 class Rows:
     """The rows of a plan, over one axis; a dose's line has about so many points."""
-    plan: Plan
-    axis: Axis
-    points: int
 
-    @classmethod
-    def of(cls, plan: Plan, points: int) -> Rows:
+    def __init__(self, plan: Plan, points: int):
         windows = {moment for dose in plan.order.doses for moment in (dose.release, dose.deadline)}
         edges = {moment for slot in plan.slots for moment in (slot.start, slot.end)}
-        return cls(plan, Axis(windows | edges), points)
+        self.plan, self.axis, self.points = plan, Axis(windows | edges), points
 
     def fan(self, fan: int) -> Row:
         slots = self.plan.of_fan(fan)
         runs = f"runs {floor(sum(slot.end - slot.start for slot in slots)):,} s"
         bars = "".join(self.bar(slot, self.plan.order.doses[slot.dose].bay, 0) for slot in slots)
-        return Row("fan", (f"fan {fan}", "", runs), f'<use href="#grid"/>{bars}', f"fan {fan} {runs}")
+        return Row((f"fan {fan}", "", runs), f'<use href="#grid"/>{bars}', f"fan {fan} {runs}")
 
     def dose(self, number: int) -> Row:
         dose, slots = self.plan.order.doses[number], self.plan.of_dose(number)
@@ -130,18 +124,20 @@ def page(title: str, facts: list[tuple[str, object]], body: str) -> str:
             f"<main><header><h1>{title}</h1><dl>{pairs}</dl></header>\n{body}</main></html>\n")
 
 
-def html_row(row: Row) -> str:
-    strong, plain, small = row.label
-    label = f"<b>{strong}</b> {plain}<br><small>{small}</small>"
-    return (f'<div class="row {row.kind}"><div class="label" title="{row.words}">{label}</div><svg role="img" aria-label='
-            f'"{row.words}"><rect class="shut" width="100%" height="100%"/>{row.drawing}</svg></div>\n')
+def defs(axis: Axis) -> str:
+    return f'<svg class="defs" aria-hidden="true">{shared(axis)}</svg>\n'
 
 
 def section(axis: Axis, word: str, rows: Iterable[Row], kind: str = "") -> str:
-    found = [html_row(row) for row in rows]
-    head = f'<h2 class="label">{count(len(found), word)}</h2><svg aria-hidden="true">{times(axis)}</svg>'
+    out = []
+    for row in rows:
+        strong, plain, small = row.label
+        out.append(f'<div class="row {word}"><div class="label" title="{row.words}">'
+                   f'<b>{strong}</b> {plain}<br><small>{small}</small></div><svg role="img" aria-label="{row.words}">'
+                   f'<rect class="shut" width="100%" height="100%"/>{row.drawing}</svg></div>\n')
+    head = f'<h2 class="label">{count(len(out), word)}</h2><svg aria-hidden="true">{times(axis)}</svg>'
     return (f'<section class="{kind}" data-scale="{axis.scale()}"><div class="row axis">{head}</div>\n'
-            f'{"".join(found)}</section>\n')
+            f'{"".join(out)}</section>\n')
 
 
 def title_of(plan: Plan) -> str:
@@ -154,16 +150,14 @@ def planned_page(plan: Plan) -> str:
              ("fan time", f"{sum(own.time for own in classes):,} fan-seconds"), ("classes", len(classes)),
              ("slots", f"{len(plan.slots):,}"), ("first class", rate(classes[0].rate) if classes else "none"),
              ("top rate", rate(plan.fans.top_rate))]
-    body = drawn(plan) if classes else f"<p>No dose is ordered, and no fan runs.</p>{PROVED}"
+    body = f"<p>No dose is ordered, and no fan runs.</p>{PROVED}"
+    if classes:
+        rows = Rows(plan, 200)
+        body = (LEAD + defs(rows.axis)
+                + section(rows.axis, "fan", map(rows.fan, range(1, plan.fans.count + 1)))
+                + section(rows.axis, "dose", map(rows.dose, range(len(plan.order.doses))))
+                + class_tables(classes) + PROVED + lists(plan, rows.axis))
     return page(escape(title_of(plan)), facts, body)
-
-
-def drawn(plan: Plan) -> str:
-    rows = Rows.of(plan, 200)
-    return (f'{LEAD}<svg class="defs" aria-hidden="true">{shared(rows.axis)}</svg>\n'
-            + section(rows.axis, "fan", map(rows.fan, range(1, plan.fans.count + 1)))
-            + section(rows.axis, "dose", map(rows.dose, range(len(plan.order.doses))))
-            + class_tables(plan.classes) + PROVED + lists(plan, rows.axis))
 
 
 def class_tables(classes: list[Class]) -> str:
@@ -188,25 +182,19 @@ def lists(plan: Plan, axis: Axis) -> str:
 
 
 def refused_page(refusal: Refusal, order: Order) -> str:
-    answer, detail = refusal.answer, "".join(f"<p>{escape(sentence(words))}</p>" for words in refusal.detail)
-    title = "Refused: this plan does not stand" if answer.number == 10 else "Refused: no plan for this order"
+    """What is wrong, with the bytes or the windows that the refusal names."""
+    answer, body = refusal.answer, "".join(f"<p>{escape(sentence(words))}</p>" for words in refusal.detail)
+    if refusal.wrong_bytes:
+        heads = "".join(f"<th>{at}" for at in range(RECORD))
+        cells = "".join(f'<td{" class=wrong" if at in refusal.wrong_bytes else ""}>{byte:02x}'
+                        for at, byte in enumerate(order.bytes_at(answer.place)))
+        body += ('<section><h2>Its bytes, in hexadecimal</h2>'
+                 f'<table class="bytes"><tr>{heads}<tr>{cells}</table></section>\n')
+    if refusal.doses:
+        axis = Axis(moment for dose in order.doses for moment in (dose.release, dose.deadline))
+        rows = (window_row(axis, number, order.doses[number]) for number in refusal.doses)
+        body += defs(axis) + section(axis, "dose", rows, "named")
     facts = [("order", escape(Path(order.name).name)), ("refusal", answer.number),
              ("what is wrong", f"<b>{FACTS[answer.number]}</b>")]
-    return page(title, facts, detail + wrong_record(refusal, order) + named_windows(refusal, order) + REFUSED)
-
-
-def wrong_record(refusal: Refusal, order: Order) -> str:
-    if refusal.answer.number not in (3, 4, 5):
-        return ""
-    cells = "".join(f'<td{" class=wrong" if at in refusal.wrong_bytes else ""}>{byte:02x}'
-                    for at, byte in enumerate(order.bytes_at(refusal.answer.place)))
-    heads = "".join(f"<th>{at}" for at in range(RECORD))
-    return f'<section><h2>Its bytes, in hexadecimal</h2><table class="bytes"><tr>{heads}<tr>{cells}</table></section>\n'
-
-
-def named_windows(refusal: Refusal, order: Order) -> str:
-    if not refusal.doses:
-        return ""
-    axis = Axis(moment for dose in order.doses for moment in (dose.release, dose.deadline))
-    rows = (window_row(axis, number, order.doses[number]) for number in refusal.doses)
-    return f'<svg class="defs" aria-hidden="true">{shared(axis)}</svg>\n' + section(axis, "dose", rows, "named")
+    title = "Refused: this plan does not stand" if answer.number == 10 else "Refused: no plan for this order"
+    return page(title, facts, body + REFUSED)
