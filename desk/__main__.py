@@ -12,7 +12,7 @@ from pathlib import Path
 from . import sheet
 from .figures import whole_in
 from .library import Library
-from .orders import Order, Wrong, read_bytes, read_order, write_text
+from .orders import Order, Wrong, read_order, write_text
 from .plans import Differs, Plan
 from .words import Refusal, check, check_text, line_words, plan_words
 
@@ -22,7 +22,7 @@ need: Callable[[str], Path] = HOME.joinpath  # ./knell builds it first
 VERBS: dict[str, tuple[str, str, Callable[..., int | None]]] = {}
 
 
-def say(words: str) -> None:
+def say(words: object) -> None:
     print(f"knell: {words}", file=sys.stderr)
 
 
@@ -41,32 +41,20 @@ def writable(name: str) -> Path:
     return path
 
 
-def dose_number(text: str) -> int:
-    number = whole_in(text)
-    if number is None:
-        raise Wrong(f"not a dose number: {text}")
-    return number
-
-
-KINDS = {"ORDER": read_order, "PLAN": read_bytes, "OUT": writable, "DOSE": dose_number}
+KINDS = {"ORDER": read_order, "PLAN": lambda name: Path(name).read_bytes(), "OUT": writable, "DOSE": whole_in}
 
 
 def library_for(order: Order) -> Library:
     """The library, for an order whose text holds nothing out of range."""
-    try:
-        library = Library(need(LIBRARY))
-    except OSError:
-        raise Wrong(f"can't load {LIBRARY}") from None
+    library = Library(need(LIBRARY))
     check_text(order, library)
     return library
 
 
 def plan_for(order: Order, given: bytes | None) -> Plan:
-    """The plan given, or else the library's own; it stands."""
-    library, data = library_for(order), given
-    if data is None:
-        answer, data = library.plan(order.data)
-        check(answer, order, library)
+    """The plan given, or else the library's own; it stands. Judging refuses an order as planning does."""
+    library = library_for(order)
+    data = library.plan(order.data)[1] if given is None else given
     check(library.judge(order.data, data), order, library)
     return Plan(order, data, library)
 
@@ -80,13 +68,6 @@ def both_forms(order: Order) -> Order:
     return order
 
 
-def write(out: Path, data: bytes) -> None:
-    try:
-        out.write_bytes(data)
-    except OSError:
-        raise Wrong(f"can't write {out}") from None
-
-
 @verb("plan ORDER [OUT.plan] [--records]", "says what each fan feeds when, or the plan's records as the printer does")
 def plan(order: Order, out: Path | None, records: bool) -> int | None:
     if records:
@@ -96,7 +77,7 @@ def plan(order: Order, out: Path | None, records: bool) -> int | None:
             return status
     made = plan_for(order, None)
     if out:
-        write(out, made.data)
+        out.write_bytes(made.data)
     if not records:
         print(plan_words(made))
     return None
@@ -109,7 +90,9 @@ def judge(order: Order, plan: bytes | None) -> None:
 
 
 @verb("draw ORDER DOSE [PLAN]", "says how much of a dose is in, and by which fan, at seconds of its window")
-def draw(order: Order, dose: int, plan: bytes | None) -> None:
+def draw(order: Order, dose: int | None, plan: bytes | None) -> None:
+    if dose is None:
+        raise Wrong("DOSE is not a number")
     made = plan_for(order, plan)
     check(made.point(dose, 0), order, made.library)
     print(line_words(made, dose))
@@ -120,25 +103,20 @@ def make_sheet(order: Order, plan: bytes | None, out: Path) -> None:
     try:
         made = plan_for(order, plan)
     except Refusal as refusal:
-        write(out, sheet.refused_page(refusal, order).encode())
+        out.write_text(sheet.refused_page(refusal, order), "utf-8")
         raise
-    write(out, sheet.planned_page(made).encode())
+    out.write_text(sheet.planned_page(made), "utf-8")
     print(f"{out}: {sheet.title_of(made)}, the plan stands")
 
 
 @verb("order ORDER OUT.order", "writes an order's bytes")
 def to_bytes(order: Order, out: Path) -> None:
-    write(out, both_forms(order).data)
+    out.write_bytes(both_forms(order).data)
 
 
 @verb("text ORDER", "says an order as text, for a spreadsheet")
-def to_text(order: Order) -> int:
-    try:
-        print(write_text(both_forms(order)), end="")
-        return 0
-    except Refusal as refusal:  # what is printed may go into a file
-        print(refusal, file=sys.stderr)
-        return 1
+def to_text(order: Order) -> None:
+    print(write_text(both_forms(order)), end="")
 
 
 class Parser(argparse.ArgumentParser):
@@ -147,47 +125,47 @@ class Parser(argparse.ArgumentParser):
         raise Wrong(f"{message}; use: {self.usage}")
 
 
-def help_words() -> str:
+def show_help() -> int:
     width = max(len(use) for use, _, _ in VERBS.values())
-    return "\n".join(["use: ./knell VERB ..; an ORDER is bytes, or text where its name ends in .csv",
-                      *(f"  {use:{width}}  {does}" for use, does, _ in VERBS.values()),
-                      "It exits 0, 1 at a refusal, and 2 at bad use, a file that can't be read or written, "
-                      "or a failed build."])
+    print("use: ./knell VERB ..; an ORDER is bytes, or text where its name ends in .csv")
+    for use, does, _ in VERBS.values():
+        print(f"  {use:{width}}  {does}")
+    print("It exits 0, 1 at a refusal, and 2 at bad use, a file that can't be read or written, or a failed build.")
+    return 0
 
 
 def run(words: list[str]) -> int:
     if words[:1] in (["help"], ["--help"], ["-h"]):
-        print(help_words())
-        return 0
+        return show_help()
     if not words or words[0] not in VERBS:
         raise Wrong(f"{f'no verb {words[0]!r}' if words else 'no verb'}: ./knell help says which there are")
     use, _, function = VERBS[words[0]]
     parser = Parser(usage=f"./knell {use}", add_help=False)
     for word in use.split()[1:]:
-        name, optional = word.strip("[]"), word.startswith("[")
+        name = word.strip("[]")
         kind = name.partition(".")[0]
         if name.startswith("--"):
             parser.add_argument(name, action="store_true")
         else:
-            parser.add_argument(kind.lower(), metavar=name, type=KINDS[kind], nargs="?" if optional else None)
-    return function(**vars(parser.parse_args(words[1:]))) or 0
+            parser.add_argument(kind.lower(), metavar=name, type=KINDS[kind], nargs="?" if name != word else None)
+    try:
+        return function(**vars(parser.parse_args(words[1:]))) or 0
+    except Refusal as refusal:  # what text prints may go into a file
+        print(refusal, file=sys.stderr if function is to_text else sys.stdout)
+        return 1
 
 
 def main() -> int:
     signal.signal(signal.SIGPIPE, signal.SIG_DFL)
     try:
-        try:
-            status = run(sys.argv[1:])
-        except Refusal as refusal:
-            print(refusal)
-            status = 1
+        status = run(sys.argv[1:])
         sys.stdout.flush()
         return status
     except (Wrong, Differs) as wrong:
-        say(str(wrong))
-    except OSError:
-        os.dup2(os.open(os.devnull, os.O_WRONLY), sys.stdout.fileno())
-        say("can't write standard output")
+        say(wrong)
+    except OSError as error:
+        os.dup2(os.open(os.devnull, os.O_WRONLY), sys.stdout.fileno())  # or it fails again when it is closed
+        say(f"{error.filename}: {error.strerror}" if error.filename else error)
     except KeyboardInterrupt:
         say("stopped")
     return 2

@@ -25,7 +25,7 @@ RANGES = {"bay": "1 to 999", "start": "0 to 604,799, which is Sun 23:59:59",
 
 
 class Wrong(Exception):
-    """Bad use, a file that can't be read or written, or a text that is no order: one line."""
+    """Bad use, a file that can't be written, or a text that is no order: one line."""
 
 
 @dataclass(frozen=True)
@@ -68,16 +68,9 @@ class Order:
         return self.time(value, column == "done") if column in TIMES else str(value)
 
 
-def read_bytes(name: str) -> bytes:
-    try:
-        return Path(name).read_bytes()
-    except (OSError, ValueError):
-        raise Wrong(f"can't read {name}") from None
-
-
 def read_order(name: str) -> Order:
     """An order from a file: a text where its name ends in .csv, else bytes."""
-    data = read_bytes(name)
+    data = Path(name).read_bytes()
     if not name.lower().endswith(".csv"):
         return Order(name, data)
     try:
