@@ -5,51 +5,33 @@ Numbers come back as the library answered them; rates and moments are exact frac
 from __future__ import annotations
 
 import ctypes
-from dataclasses import astuple, dataclass, fields
+from dataclasses import astuple, dataclass, fields, make_dataclass
 from fractions import Fraction
 from functools import cached_property
 from pathlib import Path
+from struct import Struct
 
 RECORD, PLAN_ROOM, WEEK = 32, 47392, 604800
 STATES = ("finished", "shut", "idle", "dosing")
 IDLE, DOSING = STATES.index("idle"), STATES.index("dosing")
 NUMBER, SIZE, LARGE = ctypes.c_uint32, ctypes.c_size_t, ctypes.c_uint64
-WIDTHS = {"number": NUMBER, "place": SIZE, "set": LARGE, "weight": LARGE, "time": LARGE, "classes": SIZE, "slots": SIZE,
-          "amount": NUMBER, "state": NUMBER, "fan": NUMBER}
-
-
-@dataclass(frozen=True)
-class Answer:
-    """0 or a refusal's number, its place and, for 9, the first class as a set with its weight and fan time."""
-    number: int
-    place: int
-    set: int
-    weight: int
-    time: int
-
-
-@dataclass(frozen=True)
-class Planned(Answer):
-    classes: int
-    slots: int
-
-
-@dataclass(frozen=True)
-class Drawn(Answer):
-    amount: int
-    state: int
-    fan: int
+# What the functions answer, as wide as in the header: 0 or a refusal's number, its place and, for 9, the first class as
+# a set with its weight and fan time.
+Answer = make_dataclass("Answer", [
+    ("number", NUMBER), ("place", SIZE), ("set", LARGE), ("weight", LARGE), ("time", LARGE)], frozen=True)
+Planned = make_dataclass("Planned", [("classes", SIZE), ("slots", SIZE)], bases=(Answer,), frozen=True)
+Drawn = make_dataclass("Drawn", [("amount", NUMBER), ("state", NUMBER), ("fan", NUMBER)], bases=(Answer,), frozen=True)
 
 
 def bound(function, answer: type, *more):
-    """A function of an order, a plan and more, that answers the fields of a dataclass."""
-    names = [field.name for field in fields(answer)]
-    structure = type(answer.__name__, (ctypes.Structure,), {"_fields_": [(name, WIDTHS[name]) for name in names]})
-    function.restype, function.argtypes = structure, [ctypes.c_char_p, SIZE, ctypes.c_char_p, SIZE, *more]
+    """A function of an order, a plan and more, that answers a dataclass."""
+    widths = [(field.name, field.type) for field in fields(answer)]
+    function.restype = type(answer.__name__, (ctypes.Structure,), {"_fields_": widths})
+    function.argtypes = [ctypes.c_char_p, SIZE, ctypes.c_char_p, SIZE, *more]
 
-    def call(*given):
-        got = function(*given)
-        return answer(*(getattr(got, name) for name in names))
+    def call(order: bytes, plan: bytes = b"", *given):
+        got = function(order, len(order), plan, len(plan), *given)
+        return answer(*(getattr(got, name) for name, _ in widths))
     return call
 
 
@@ -58,27 +40,21 @@ class Library:
 
     def __init__(self, path: Path):
         library = ctypes.CDLL(str(path))
+        self.judge = bound(library.knellgable_judge, Answer)
+        self.point = bound(library.knellgable_point, Drawn, SIZE, NUMBER)
         self._plan = bound(library.knellgable_plan, Planned)
-        self._judge = bound(library.knellgable_judge, Answer)
-        self._point = bound(library.knellgable_point, Drawn, SIZE, NUMBER)
         self._advance = bound(library.knellgable_advance, Drawn, SIZE, ctypes.POINTER(NUMBER))
 
     def plan(self, order: bytes) -> tuple[Planned, bytes]:
         """The answer, and the plan's own bytes."""
         room = ctypes.create_string_buffer(PLAN_ROOM)
-        answer = self._plan(order, len(order), room, PLAN_ROOM)
+        answer = self._plan(order, room)
         return answer, room.raw[:RECORD * (answer.classes + answer.slots)]
-
-    def judge(self, order: bytes, plan: bytes = b"") -> Answer:
-        return self._judge(order, len(order), plan, len(plan))
-
-    def point(self, order: bytes, plan: bytes, dose: int, tick: int) -> Drawn:
-        return self._point(order, len(order), plan, len(plan), dose, tick)
 
     def advance(self, order: bytes, plan: bytes, dose: int, tick: int) -> tuple[Drawn, int]:
         """The answer, and the tick that the pen is at."""
         lent = NUMBER(tick)
-        return self._advance(order, len(order), plan, len(plan), dose, ctypes.byref(lent)), lent.value
+        return self._advance(order, plan, dose, lent), lent.value
 
 
 @dataclass(frozen=True)
@@ -134,29 +110,19 @@ class Slot:
         return self.end_tick + Fraction(self.end_part, self.weight)
 
 
-# Each kind's first byte, then where its fields stand and how long they are: docs/RULES.md, "Records".
-LAYOUT = {
-    Fans: (0x46, ((1, 1), (4, 4), (8, 4))),
-    Dose: (0x44, ((2, 2), (4, 4), (8, 4), (12, 4))),
-    Class: (0x43, ((1, 1), (2, 2), (4, 4), (8, 4))),
-    Slot: (0x53, ((1, 1), (2, 2), (4, 4), (8, 4), (12, 4), (16, 4), (20, 4), (24, 4), (28, 1))),
-}
+# Each kind's first byte, and how its fields stand in the other 31: docs/RULES.md, "Records".
+LAYOUT = {Fans: (b"F", Struct("<B2xII20x")), Dose: (b"D", Struct("<xHIII16x")),
+          Class: (b"C", Struct("<BHII20x")), Slot: (b"S", Struct("<BHIIIIIIB3x"))}
 KINDS = {byte: kind for kind, (byte, _) in LAYOUT.items()}
+MOST = {kind: rest.unpack(b"\xff" * rest.size) for kind, (_, rest) in LAYOUT.items()}  # what each field can hold
 
 
 def read_records(data: bytes) -> list:
     """The whole records of any bytes, fields as they stand; None for a kind that is none of the four."""
-    found = []
-    for at in range(0, len(data) - RECORD + 1, RECORD):
-        kind = KINDS.get(data[at])
-        found.append(kind and kind(*(int.from_bytes(data[at + place:at + place + size], "little")
-                                     for place, size in LAYOUT[kind][1])))
-    return found
+    kinds = ((at, KINDS.get(data[at:at + 1])) for at in range(0, len(data) - RECORD + 1, RECORD))
+    return [kind and kind(*LAYOUT[kind][1].unpack_from(data, at + 1)) for at, kind in kinds]
 
 
 def write_record(record) -> bytes:
-    byte, places = LAYOUT[type(record)]
-    data = bytearray([byte, *bytes(RECORD - 1)])
-    for (at, size), value in zip(places, astuple(record)):
-        data[at:at + size] = value.to_bytes(size, "little")
-    return bytes(data)
+    byte, rest = LAYOUT[type(record)]
+    return byte + rest.pack(*astuple(record))

@@ -7,12 +7,12 @@ from __future__ import annotations
 import csv
 import io
 from collections.abc import Iterator
-from dataclasses import astuple, dataclass
-from functools import cached_property
+from dataclasses import astuple
+from itertools import zip_longest
 from pathlib import Path
 
 from .figures import clock, plain, seconds_in, whole_in
-from .library import LAYOUT, RECORD, Dose, Fans, read_records, write_record
+from .library import MOST, RECORD, Dose, Fans, read_records, write_record
 
 ROWS = {Dose: ("dose", ("bay", "start", "done", "grams")), Fans: ("fans", ("fans", "top grams", "top seconds"))}
 KINDS = {name: kind for kind, (name, _) in ROWS.items()}
@@ -28,30 +28,16 @@ class Wrong(Exception):
     """Bad use, a file that can't be written, or a text that is no order: one line."""
 
 
-@dataclass(frozen=True)
 class Order:
     """An order's bytes as the library takes them, and what words about it need."""
-    name: str
-    data: bytes
-    lines: tuple[int, ...] = ()  # of a text: the line of each record
-    clock: bool = True  # its times are said as Mon 06:30, and not in seconds
 
-    @cached_property
-    def records(self) -> list:
-        return read_records(self.data)
-
-    @cached_property
-    def places(self) -> list[int]:
-        """The record of each dose."""
-        return [at for at, record in enumerate(self.records) if isinstance(record, Dose)]
-
-    @cached_property
-    def doses(self) -> list[Dose]:
-        return [self.records[at] for at in self.places]
-
-    @cached_property
-    def fans(self) -> list[Fans]:
-        return [record for record in self.records if isinstance(record, Fans)]
+    def __init__(self, name: str, data: bytes, lines: tuple[int, ...] = (), clock: bool = True):
+        """A text has the line of each record. Times are said as Mon 06:30, or in seconds."""
+        self.name, self.data, self.lines, self.clock = name, data, lines, clock
+        self.records = read_records(data)
+        self.places = [at for at, record in enumerate(self.records) if isinstance(record, Dose)]  # of each dose
+        self.doses = [self.records[at] for at in self.places]
+        self.fans = [record for record in self.records if isinstance(record, Fans)]
 
     def bytes_at(self, at: int) -> bytes:
         return self.data[RECORD * at:RECORD * (at + 1)]
@@ -82,11 +68,9 @@ def read_order(name: str) -> Order:
 def read_text(name: str, text: str) -> Order:
     rows = rows_of(text)
     columns = header(*next(rows, (1, [])))
-    found = [(line, row_of(line, columns, cells)) for line, cells in rows]
-    data = b"".join(write_record(record_of(line, row)) for line, row in found)
-    times = [row[column] for _, row in found for column in TIMES if column in row]
-    in_seconds = bool(times) and all(map(str.isdigit, times))
-    return Order(name, data, tuple(line for line, _ in found), not in_seconds)
+    records = {line: record_of(line, columns, cells) for line, cells in rows}
+    data = b"".join(map(write_record, records.values()))
+    return Order(name, data, tuple(records), ":" in text)  # only a time of day has a colon
 
 
 def rows_of(text: str) -> Iterator[tuple[int, list[str]]]:
@@ -105,14 +89,12 @@ def rows_of(text: str) -> Iterator[tuple[int, list[str]]]:
 
 def write_text(order: Order) -> str:
     """The text of an order whose records the reader takes."""
-    out = io.StringIO()
-    rows = csv.DictWriter(out, COLUMNS, restval="", lineterminator="\n")
-    rows.writeheader()
+    rows = [COLUMNS]
     for record in order.records:
         name, columns = ROWS[type(record)]
         cells = {column: order.cell(column, value) for column, value in zip(columns, astuple(record))}
-        rows.writerow({"row": name, **cells})
-    return out.getvalue()
+        rows.append([name, *(cells.get(column, "") for column in COLUMNS[1:])])
+    return "".join(",".join(row) + "\n" for row in rows)
 
 
 def wrong(line: int, column: str | int, what: str) -> Wrong:
@@ -135,37 +117,29 @@ def header(line: int, cells: list[str]) -> list[str]:
     return names
 
 
-def row_of(line: int, columns: list[str], cells: list[str]) -> dict[str, str]:
-    """The cells that hold anything, by their columns."""
-    row = {}
-    for at, cell in enumerate(cells):
-        if cell and (at >= len(columns) or not columns[at]):
-            raise wrong(line, at + 1, f"{cell!r} stands under no name")
-        if cell:
-            row[columns[at]] = cell
-    return row
-
-
-def record_of(line: int, row: dict[str, str]) -> Fans | Dose:
-    name = row.get("row", "")
+def record_of(line: int, columns: list[str], cells: list[str]) -> Fans | Dose:
+    for at, (column, cell) in enumerate(zip_longest(columns, cells, fillvalue=""), 1):
+        if cell and not column:
+            raise wrong(line, at, f"{cell!r} stands under no name")
+    row = {column: cell for column, cell in zip(columns, cells) if cell}
+    name = row.pop("row", "")
     if name.lower() not in KINDS:
         raise wrong(line, "row", f"{name!r} is neither {' nor '.join(KINDS)}")
     kind = KINDS[name.lower()]
-    columns = ROWS[kind][1]
-    for column in row:
-        if column not in ("row", *columns):
-            raise wrong(line, column, f"{row[column]!r} is not for a row of {name}")
-    sizes = (size for _, size in LAYOUT[kind][1])
-    return kind(*(value_of(line, column, row.get(column, ""), size) for column, size in zip(columns, sizes)))
+    own = ROWS[kind][1]
+    for column, cell in row.items():
+        if column not in own:
+            raise wrong(line, column, f"{cell!r} is not for a row of {name}")
+    return kind(*(value_of(line, column, row.get(column, ""), most) for column, most in zip(own, MOST[kind])))
 
 
-def value_of(line: int, column: str, cell: str, size: int) -> int:
+def value_of(line: int, column: str, cell: str, most: int) -> int:
     value = seconds_in(cell) if column in TIMES else whole_in(cell)
     if not cell:
         raise wrong(line, column, "nothing is there")
     if value is None:
         what = "time: write Mon 06:30, Mon 06:30:15 or a second of the week" if column in TIMES else "whole number"
         raise wrong(line, column, f"{cell!r} is no {what}")
-    if value >> 8 * size:
+    if value > most:
         raise out_of_range(line, column, cell)
     return value

@@ -1,12 +1,11 @@
 """A plan that stands, by fan and by dose, and the checks without which no sheet is written."""
 from __future__ import annotations
 
-from dataclasses import dataclass, replace
+from dataclasses import replace
 from fractions import Fraction
-from functools import cached_property
 from math import ceil, floor
 
-from .library import DOSING, Class, Drawn, Fans, Library, Slot, read_records
+from .library import DOSING, Class, Drawn, Library, Slot, read_records
 from .orders import Order
 
 
@@ -14,34 +13,19 @@ class Differs(Exception):
     """The library's answers and what would be drawn don't agree."""
 
 
-@dataclass(frozen=True)
 class Plan:
     """An order and plan bytes that stand for it."""
-    order: Order
-    data: bytes
-    library: Library
+
+    def __init__(self, order: Order, data: bytes, library: Library):
+        self.order, self.data, self.library, self.fans = order, data, library, order.fans[0]
+        self.classes = [record for record in read_records(data) if isinstance(record, Class)]
+        self.slots = [record for record in read_records(data) if isinstance(record, Slot)]
 
     def point(self, dose: int, tick: int) -> Drawn:
         return self.library.point(self.order.data, self.data, dose, tick)
 
-    @property
-    def fans(self) -> Fans:
-        return self.order.fans[0]
-
-    @cached_property
-    def classes(self) -> list[Class]:
-        return [record for record in read_records(self.data) if isinstance(record, Class)]
-
-    @cached_property
-    def slots(self) -> list[Slot]:
-        return [record for record in read_records(self.data) if isinstance(record, Slot)]
-
     def class_of(self, slot: Slot) -> Class:
         return self.classes[slot.class_number - 1]
-
-    def doses_in(self, number: int) -> list[int]:
-        """The doses of a class, as its slots name them."""
-        return sorted({slot.dose for slot in self.slots if slot.class_number == number})
 
     def of_fan(self, fan: int) -> list[Slot]:
         return joined([slot for slot in self.slots if slot.fan == fan])

@@ -9,7 +9,7 @@ from fractions import Fraction
 from textwrap import fill
 
 from .figures import count, decimal, listed, rate
-from .library import DOSING, LAYOUT, RECORD, STATES, WEEK, Answer, Dose, Fans, Library, write_record
+from .library import DOSING, MOST, RECORD, STATES, WEEK, Answer, Dose, Fans, Library, write_record
 from .orders import RANGES, ROWS, Order, Wrong, out_of_range
 from .plans import Plan
 
@@ -61,62 +61,56 @@ def window_words(order: Order, dose: int) -> str:
 
 def check(answer: Answer, order: Order, library: Library) -> None:
     """Raises the refusal that an answer is, if it is one."""
-    number, doses, wrong_bytes = answer.number, [], []
+    number, at, doses, wrong_bytes = answer.number, answer.place, [], []
     if number == 0:
         return
-    fans = listed([order.place(at) for at, record in enumerate(order.records) if isinstance(record, Fans)])
+    fans = listed([order.place(i) for i, record in enumerate(order.records) if isinstance(record, Fans)])
     detail = {2: [f"this one has {count(len(order.data), 'byte')}"], 6: [f"this one has {fans or 'none'}"],
               7: [f"this one has {len(order.doses)}"],
               11: [f"this order has {count(len(order.doses), 'dose')}, numbered from 0"]}.get(number, [])
     if number in (3, 4, 5):
-        said, wrong_bytes = {3: wrong_kind, 4: wrong_zeros, 5: wrong_fields}[number](order, answer.place, library)
-        dose = f", dose {order.places.index(answer.place)}" if answer.place in order.places else ""
-        detail = [f"{order.place(answer.place)}, counted from 0{dose}: {said}"]
+        said, wrong_bytes = wrong_record(number, order, at, library)
+        dose = f", dose {order.places.index(at)}" if at in order.places else ""
+        detail = [f"record {at}, counted from 0{dose}: {said}"]
     elif number == 8:
-        detail, doses = overlap(order, order.places.index(answer.place), library)
+        detail, doses = overlap(order, order.places.index(at), library)
     elif number == 9:
         detail, doses = too_fast(answer, order)
     raise Refusal(answer, detail, doses, wrong_bytes)
 
 
-def wrong_kind(order: Order, at: int, _: Library) -> tuple[str, list[int]]:
-    return f"its first byte is {order.bytes_at(at)[0]:02x}, neither 46 (F) nor 44 (D)", [0]
+def wrong_record(number: int, order: Order, at: int, library: Library) -> tuple[str, list[int]]:
+    """What is wrong in a record, and its bytes: for 4 those that are refused each alone in a record of that kind."""
+    record, data = order.records[at], order.bytes_at(at)
+    if number == 3:
+        return f"its first byte is {data[0]:02x}, neither 46 (F) nor 44 (D)", [0]
+    if number == 4:
+        alone = [bytes(byte if i in (0, here) else 0 for i, byte in enumerate(data)) for here in range(RECORD)]
+        found = [here for here in range(RECORD) if library.judge(alone[here]).number == 4]
+        return listed([f"byte {here} is {data[here]:02x}" for here in found]) + ", where 00 must be", found
+    kind, wrong = type(record), values_out_of_range(record, library)
+    said = "; ".join(f"{column} is {value:,}, and may be {RANGES[column]}" for column, value in wrong.items())
+    filled = kind(*(most if column in wrong else 0 for column, most in zip(ROWS[kind][1], MOST[kind])))
+    return said, [here for here, byte in enumerate(write_record(filled)) if here and byte]
 
 
-def wrong_zeros(order: Order, at: int, library: Library) -> tuple[str, list[int]]:
-    """The bytes that are refused 4 each alone in a record of that kind."""
-    data = order.bytes_at(at)
-    alone = [bytes(byte if i in (0, here) else 0 for i, byte in enumerate(data)) for here in range(RECORD)]
-    found = [here for here in range(RECORD) if library.judge(alone[here]).number == 4]
-    return listed([f"byte {here} is {data[here]:02x}" for here in found]) + ", where 00 must be", found
-
-
-def wrong_fields(order: Order, at: int, library: Library) -> tuple[str, list[int]]:
-    record, found = order.records[at], fields_out_of_range(order.records[at], library)
-    columns, places = ROWS[type(record)][1], LAYOUT[type(record)][1]
-    said = [f"{columns[i]} is {astuple(record)[i]:,}, and may be {RANGES[columns[i]]}" for i in found]
-    return "; ".join(said), [place + more for place, size in (places[i] for i in found) for more in range(size)]
-
-
-def fields_out_of_range(record: Dose | Fans, library: Library) -> list[int]:
-    """The fields that are refused 5 each alone in a good record; else the last one that, made good, mends its own."""
+def values_out_of_range(record: Dose | Fans, library: Library) -> dict[str, int]:
+    """Those that are refused 5 each alone in a good record; else the last one that, made good, mends its own."""
     kind, own, good = type(record), astuple(record), astuple(GOOD[type(record)])
 
     def refused(*values: int) -> bool:
         return library.judge(write_record(kind(*values))).number == 5
     alone = [i for i in range(len(own)) if refused(*good[:i], own[i], *good[i + 1:])]
     mends = [i for i in range(len(own)) if not refused(*own[:i], good[i], *own[i + 1:])]
-    return alone or mends[-1:]
+    return {ROWS[kind][1][i]: own[i] for i in alone or mends[-1:]}
 
 
 def check_text(order: Order, library: Library) -> None:
     """A text is wrong where the library refuses a value of it as out of range."""
     answer = library.judge(order.data)
     if order.lines and answer.number == 5:
-        record = order.records[answer.place]
-        field = fields_out_of_range(record, library)[0]
-        column = ROWS[type(record)][1][field]
-        words = out_of_range(order.lines[answer.place], column, order.cell(column, astuple(record)[field]))
+        column, value = [*values_out_of_range(order.records[answer.place], library).items()][0]
+        words = out_of_range(order.lines[answer.place], column, order.cell(column, value))
         raise Wrong(f"{order.name}: {words}")
 
 
@@ -148,20 +142,18 @@ def plan_words(plan: Plan) -> str:
     sizes = f"{count(len(plan.classes), 'class')}, {count(len(plan.slots), 'slot')}"
     words = [f"{count(len(plan.order.doses), 'dose')} on {top}: {weight:,} g in {time:,} fan-seconds, {sizes}", ""]
     for own in plan.classes:
-        doses = listed([dose_words(plan.order, dose) for dose in plan.doses_in(own.number)])
+        doses = sorted({slot.dose for slot in plan.slots if slot.class_number == own.number})
+        named = listed([dose_words(plan.order, dose) for dose in doses])
         words += [f"class {own.number}: {rate(own.rate)}, which is {own.weight:,} g in {own.time:,} fan-seconds",
-                  fill(doses, 100, initial_indent="  ", subsequent_indent="  ")]
+                  fill(named, 100, initial_indent="  ", subsequent_indent="  ")]
     for fan in range(1, plan.fans.count + 1):
-        words += ["", f"fan {fan} feeds", *(fan_lines(plan, fan) or ["  nothing"])]
+        slots = plan.of_fan(fan)
+        times = [(plan.order.time(slot.start), plan.order.time(slot.end, True)) for slot in slots]
+        width = max((len(time) for pair in times for time in pair), default=0)
+        lines = [f"  {start:{width}} to {end:{width}}  {dose_words(plan.order, slot.dose)} "
+                 f"at {rate(plan.class_of(slot).rate)}" for (start, end), slot in zip(times, slots)]
+        words += ["", f"fan {fan} feeds", *(lines or ["  nothing"])]
     return "\n".join(words)
-
-
-def fan_lines(plan: Plan, fan: int) -> list[str]:
-    slots = plan.of_fan(fan)
-    times = [(plan.order.time(slot.start), plan.order.time(slot.end, True)) for slot in slots]
-    width = max((len(time) for pair in times for time in pair), default=0)
-    return [f"  {start:{width}} to {end:{width}}  {dose_words(plan.order, slot.dose)} "
-            f"at {rate(plan.class_of(slot).rate)}" for (start, end), slot in zip(times, slots)]
 
 
 def line_words(plan: Plan, dose: int) -> str:
