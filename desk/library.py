@@ -76,12 +76,8 @@ class Dose:
     grams: int
 
 
-@dataclass(frozen=True)
-class Class:
-    number: int
-    doses: int
-    weight: int
-    time: int
+class Rated:
+    """A class and its slots have one rate: W grams in P seconds of fan time."""
 
     @cached_property
     def rate(self) -> Fraction:
@@ -89,7 +85,15 @@ class Class:
 
 
 @dataclass(frozen=True)
-class Slot:
+class Class(Rated):
+    number: int
+    doses: int
+    weight: int
+    time: int
+
+
+@dataclass(frozen=True)
+class Slot(Rated):
     fan: int
     dose: int
     start_tick: int

@@ -24,9 +24,6 @@ class Plan:
     def point(self, dose: int, tick: int) -> Drawn:
         return self.library.point(self.order.data, self.data, dose, tick)
 
-    def class_of(self, slot: Slot) -> Class:
-        return self.classes[slot.class_number - 1]
-
     def of_fan(self, fan: int) -> list[Slot]:
         return joined([slot for slot in self.slots if slot.fan == fan])
 
@@ -42,8 +39,8 @@ class Plan:
             if slot.start > at:
                 busy = [other for other in self.slots if other.start < slot.start and other.end > at]
                 fed = sum(min(other.end, slot.start) - max(other.start, at) for other in busy)
-                slowest = min((self.class_of(other).rate for other in busy), default=0)
-                if fed != self.fans.count * (slot.start - at) or slowest < self.class_of(slot).rate:
+                slowest = min((other.rate for other in busy), default=0)
+                if fed != self.fans.count * (slot.start - at) or slowest < slot.rate:
                     raise Differs(f"dose {dose} is idle from {at} to {slot.start} with a fan free or slower")
                 found.append((at, slot.start, slowest))
             at = slot.end

@@ -75,15 +75,14 @@ class Rows:
 
     def dose(self, number: int) -> Row:
         dose, slots = self.plan.order.doses[number], self.plan.of_dose(number)
-        own = self.plan.class_of(slots[0])
         line = steps(self.axis, dose, self.plan.points(number, self.points), f"h{number % 3}")
         bars = "".join(self.bar(slot, slot.fan, BARS) for slot in slots)
-        small, drawing = f"{rate(own.rate)}, class {own.number}", self.waits(number, own) + line + bars
-        return window_row(self.axis, number, dose, small, self.unnamed(slots), drawing)
+        small = f"{rate(slots[0].rate)}, class {slots[0].class_number}"
+        return window_row(self.axis, number, dose, small, self.unnamed(slots), self.waits(number) + line + bars)
 
     def bar(self, slot: Slot, name: int, top: int) -> str:
         """A bar from a height down, with its name where that fits; its words show over the whole row."""
-        left, right, own = self.axis.at(slot.start), self.axis.at(slot.end), self.plan.class_of(slot)
+        left, right = self.axis.at(slot.start), self.axis.at(slot.end)
         thin, strong = right - left < THIN, strength(self.plan.classes, slot.class_number)
         kind = f"bar h{slot.dose % 3}" + (" thin" if thin else "")
         shade = " strong" if strong > 0.75 else " weak" if strong <= 0.5 else ""
@@ -92,7 +91,7 @@ class Rows:
                            for tick, part in ((slot.start_tick, slot.start_part), (slot.end_tick, slot.end_part)))
         words = (f"fan {slot.fan} feeds bay {self.plan.order.doses[slot.dose].bay} (dose {slot.dose})\n"
                  f"{span(slot.start, slot.end)}\n{ends}\n"
-                 f"{rate(own.rate)}, class {own.number}: {own.weight:,} g in {own.time:,} fan-seconds")
+                 f"{rate(slot.rate)}, class {slot.class_number}: {slot.weight:,} g in {slot.time:,} fan-seconds")
         return (box(self.axis, slot.start, slot.end, "feel", words)
                 + box(self.axis, slot.start, slot.end, kind, more=fill)
                 + ("" if thin else rule(left, "cut", f"{top}%"))
@@ -105,16 +104,15 @@ class Rows:
         fans = sorted({slot.fan for slot in slots})
         return f"fan{'s' if len(fans) > 1 else ''} {', '.join(map(str, fans))}"
 
-    def waits(self, number: int, own: Class) -> str:
+    def waits(self, number: int) -> str:
         """Hatched: the dose has no fan, because all of them run at its rate or above."""
-        dose, out = self.plan.order.doses[number], []
+        dose, last, out = self.plan.order.doses[number], self.plan.of_dose(number)[-1], []
         for start, end, slowest in self.plan.waits(number):
             why = (f"bay {dose.bay} waits: all fans busy at its rate or above\n{span(start, end)}\n"
-                   f"slowest of {count(self.plan.fans.count, 'fan')} {rate(slowest)}, its own rate {rate(own.rate)}")
+                   f"slowest of {count(self.plan.fans.count, 'fan')} {rate(slowest)}, its own rate {rate(last.rate)}")
             out += [box(self.axis, start, end, "wait", why),
                     fitted(self.axis.at(start), self.axis.at(end), "81%", "waits", "waits")]
-        last = self.plan.of_dose(number)[-1].end
-        return "".join(out) + box(self.axis, last, dose.deadline, "feel", f"all {dose.grams:,} g are in")
+        return "".join(out) + box(self.axis, last.end, dose.deadline, "feel", f"all {dose.grams:,} g are in")
 
 
 def page(title: str, facts: list[tuple[str, object]], body: str) -> str:

@@ -151,7 +151,7 @@ def plan_words(plan: Plan) -> str:
         times = [(plan.order.time(slot.start), plan.order.time(slot.end, True)) for slot in slots]
         width = max((len(time) for pair in times for time in pair), default=0)
         lines = [f"  {start:{width}} to {end:{width}}  {dose_words(plan.order, slot.dose)} "
-                 f"at {rate(plan.class_of(slot).rate)}" for (start, end), slot in zip(times, slots)]
+                 f"at {rate(slot.rate)}" for (start, end), slot in zip(times, slots)]
         words += ["", f"fan {fan} feeds", *(lines or ["  nothing"])]
     return "\n".join(words)
 
