@@ -103,9 +103,9 @@ def make_sheet(order: Order, plan: bytes | None, out: Path) -> None:
     try:
         made = plan_for(order, plan)
     except Refusal as refusal:
-        out.write_text(sheet.refused_page(refusal, order), "utf-8")
+        out.write_text(sheet.refused_page(refusal, order), "utf-8", "replace")
         raise
-    out.write_text(sheet.planned_page(made), "utf-8")
+    out.write_text(sheet.planned_page(made), "utf-8", "replace")
     print(f"{out}: {sheet.title_of(made)}, the plan stands")
 
 
@@ -157,6 +157,7 @@ def run(words: list[str]) -> int:
 
 def main() -> int:
     signal.signal(signal.SIGPIPE, signal.SIG_DFL)
+    sys.stdout.reconfigure(errors="backslashreplace")  # a file's name may be any bytes
     try:
         status = run(sys.argv[1:])
         sys.stdout.flush()
