@@ -4,7 +4,7 @@ use Prim.Native.Nat.{ℕ, _+_, _/_, _<_, _≤_}
 use lib.ListN.{length}
 use Rattle.model.specs.Records.{recordSize}
 use Rattle.records.specs.Plan.{slotIn}
-use Rattle.judge_clauses.specs.Tests.{Counts, InTurn, Ready, OrderHeld, SlotFits}
+use Rattle.judge_clauses.specs.Tests.{Counts, InTurn, SlotsReady, OrderHeld, SlotFits}
 use Rattle.judge_slots.proofs.Places.{turns-all}
 use Rattle.judge_pairs.proofs.Turns.{turn-place}
 
@@ -16,7 +16,7 @@ module _ (h : OrderHeld) (plan : List ℕ) (p : ℕ) (numbers : List ℕ)
 
   -- and in turn, they can be held against each other
   pub ready-of : ((i : ℕ) → i + 1 < length plan / recordSize → p ≤ i → InTurn (h .instants) (h .intervals) (slotIn plan i) (slotIn plan (i + 1)))
-      → Ready (h .instants) (h .intervals) plan p
+      → SlotsReady (h .instants) (h .intervals) plan p
   ready-of turns = record {
     long = λ i l g. slots i l g .long;
     place = λ i l g. slots i l g .inside .place;

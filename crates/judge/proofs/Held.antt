@@ -12,7 +12,7 @@ use Rattle.model.specs.Intervals.{fansPresent, settingOf}
 use Rattle.model.proofs.Same.{Agree, weight-same, W-same, class-time-same}
 use Rattle.model.proofs.Lists.{Pairs-at}
 use Rattle.model.proofs.Intervals.{instants-sorted}
-use Rattle.judge_clauses.specs.Tests.{OrderHeld, HeldFrom, fansIn, settingIn}
+use Rattle.judge_clauses.specs.Tests.{OrderHeld, HeldFrom, fansHeld, settingIn}
 
 module _ (o : Order) (h : OrderHeld) (sh : HeldFrom o h) where
   -- their setting is the order's
@@ -34,8 +34,8 @@ module _ (o : Order) (h : OrderHeld) (sh : HeldFrom o h) where
   same-weight A = W-same (settingIn h) (settingOf o) agree A A (λ k l. refl)
 
   -- the same P
-  pub same-time : (C : ℕ → Doses) (i : ℕ) → classP (settingIn h) (fansIn h) C i ≡ classP (settingOf o) (fansPresent o) C i
-  same-time = class-time-same (settingIn h) (settingOf o) agree (fansIn h) (fansPresent o) (λ j q. sh .fans)
+  pub same-time : (C : ℕ → Doses) (i : ℕ) → classP (settingIn h) (fansHeld h) C i ≡ classP (settingOf o) (fansPresent o) C i
+  same-time = class-time-same (settingIn h) (settingOf o) agree (fansHeld h) (fansPresent o) (λ j q. sh .fans)
 
   -- instants rise
   pub instants-up : (i j : ℕ) → i ≤ j → j ≤ h .intervals → getD (h .instants) i 0 ≤ getD (h .instants) j 0

@@ -52,8 +52,8 @@ abbrev pub settingIn : OrderHeld → Setting
 settingIn h = settingBy (h .doses) (h .intervals) (h .release) (h .deadline) (h .grams) (h .instants)
 
 -- its fans, in every interval
-abbrev pub fansIn : OrderHeld → Row
-fansIn h j = h .fans
+abbrev pub fansHeld : OrderHeld → Row
+fansHeld h j = h .fans
 
 -- the first interval that ends after tick t, of n from interval j on
 unfoldable pub scan : List ℕ → ℕ → ℕ → ℕ → ℕ
@@ -97,7 +97,7 @@ pub record ClassFits (h : OrderHeld) (numbers : List ℕ) (i : ℕ) (c : Class) 
   pub doses : c .doses ≡ weight (h .doses) (λ k. 1) (setsOf numbers i)
   pub some : 1 ≤ c .doses
   pub weight : c .weight ≡ W (settingIn h) (setsOf numbers i)
-  pub time : c .time ≡ classP (settingIn h) (fansIn h) (setsOf numbers) i
+  pub time : c .time ≡ classP (settingIn h) (fansHeld h) (setsOf numbers) i
 
 -- the same, from numbers that were worked out
 pub record Says (c : Class) (i size weight time : ℕ) : Type 0 where
@@ -149,7 +149,7 @@ pub data InTurn (instants : List ℕ) (intervals : ℕ) (s u : Slot) : Type 0 wh
   by-time : placeIn instants intervals s ≡ placeIn instants intervals u → s .fan ≡ u .fan → EndsBy s u → InTurn instants intervals s u
 
 -- slots that are long, in an interval and in turn
-pub record Ready (instants : List ℕ) (intervals : ℕ) (plan : List ℕ) (p : ℕ) : Type 0 where
+pub record SlotsReady (instants : List ℕ) (intervals : ℕ) (plan : List ℕ) (p : ℕ) : Type 0 where
   pub long : (i : ℕ) → i < length plan / recordSize → p ≤ i → SlotLong (slotIn plan i)
   pub place : (i : ℕ) → i < length plan / recordSize → p ≤ i → placeIn instants intervals (slotIn plan i) < intervals
   pub sorted : (i l : ℕ) → p ≤ i → i < l → l < length plan / recordSize → placeIn instants intervals (slotIn plan i) ≤ placeIn instants intervals (slotIn plan l)

@@ -12,7 +12,7 @@ use Rattle.model.specs.Stands.{EndsBy}
 use Rattle.model.proofs.Fractions.{compare≤}
 use Rattle.steps.proofs.Tests.{below-or}
 use Rattle.records.specs.Plan.{slotIn}
-use Rattle.judge_clauses.specs.Tests.{Apart, ApartAfter, InTurn, Ready, SlotLong, by-fan, by-interval, by-time, placeIn, scan}
+use Rattle.judge_clauses.specs.Tests.{Apart, ApartAfter, InTurn, SlotsReady, SlotLong, by-fan, by-interval, by-time, placeIn, scan}
 use Rattle.judge_slots.proofs.Places.{scan-none, scan-on, scan-stop}
 
 module _ {instants : List ℕ} {intervals : ℕ} {s u : Slot} where
@@ -67,7 +67,7 @@ module _ (instants : List ℕ) (t : ℕ) where
 
 -- s is slot i of a plan whose slots are in turn, and j its interval; u is a later slot, l
 pub record Behind (instants : List ℕ) (intervals : ℕ) (plan : List ℕ) (p i l : ℕ) (s u : Slot) (j : ℕ) : Type 0 where
-  pub ready : Ready instants intervals plan p
+  pub ready : SlotsReady instants intervals plan p
   pub from : p ≤ i
   pub later : i < l
   pub within : l < length plan / recordSize

@@ -12,7 +12,7 @@ ghost use Rattle.model.specs.Records.{recordSize};
 ghost use Rattle.model.specs.Stands.{EndsBy};
 ghost use Rattle.records.specs.Held.{asSlot};
 ghost use Rattle.records.specs.Plan.{slotIn};
-ghost use Rattle.judge_clauses.specs.Tests.{Tells, SlotLong, InTurn, Ready, Apart, ApartAfter};
+ghost use Rattle.judge_clauses.specs.Tests.{Tells, SlotLong, InTurn, SlotsReady, Apart, ApartAfter};
 
 // s ends at or before the moment at which u starts: ticks first, then products of parts, which fit 64 bits.
 fn ends_by(s: Slot, u: Slot) -> bool
@@ -90,7 +90,7 @@ fn clear_after(
     instants: &[u32; MOST_INSTANTS],
     intervals: usize,
 ) -> bool
-    requires { ⌜ (intervals ≤ mostIntervals) × (p ≤ i) × (i < length (now plan) / recordSize) × Ready (now instants) intervals (now plan) p ⌝ }
+    requires { ⌜ (intervals ≤ mostIntervals) × (p ≤ i) × (i < length (now plan) / recordSize) × SlotsReady (now instants) intervals (now plan) p ⌝ }
     ensures { λ t. ⌜ Tells t (ApartAfter (now (instants .entry)) intervals (now (plan .entry)) i (length (now (plan .entry)) / recordSize)) ⌝ }
 {
     let m = plan.len() / RECORD_SIZE;
@@ -113,7 +113,7 @@ fn clear_after(
 
 // "no two slots of one dose overlap".
 pub fn all_clear(plan: &[u8], p: usize, instants: &[u32; MOST_INSTANTS], intervals: usize) -> bool
-    requires { ⌜ (intervals ≤ mostIntervals) × Ready (now instants) intervals (now plan) p ⌝ }
+    requires { ⌜ (intervals ≤ mostIntervals) × SlotsReady (now instants) intervals (now plan) p ⌝ }
     ensures { λ t. ⌜ Tells t ((i : ℕ) → i < length (now (plan .entry)) / recordSize → p ≤ i → ApartAfter (now (instants .entry)) intervals (now (plan .entry)) i (length (now (plan .entry)) / recordSize)) ⌝ }
 {
     let m = plan.len() / RECORD_SIZE;

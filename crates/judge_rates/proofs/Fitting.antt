@@ -14,14 +14,14 @@ use Rattle.measure.specs.Arrays.{lenOf, setOf, setsOf}
 use Rattle.measure.specs.Measure.{Measured, Opens}
 use Rattle.measure.proofs.Laws.{measured}
 use Rattle.measure.proofs.Free.{Frees, frees-next}
-use Rattle.judge_clauses.specs.Tests.{ClassFits, Says, OrderHeld, Tells, fansIn, settingIn}
+use Rattle.judge_clauses.specs.Tests.{ClassFits, Says, OrderHeld, Tells, fansHeld, settingIn}
 use Rattle.judge_clauses.proofs.Tell.{tells-by}
 
 -- what was worked out for class i: `set` marks its doses, `fans` has what the earlier classes leave, and the rest comes of these
 pub record WorkedOut (h : OrderHeld) (numbers : List ℕ) (i : ℕ) (fans : List ℕ) (set : List Bool) (open-fans : List ℕ) (size w p : ℕ) : Type 0 where
   pub few-doses : h .doses ≤ mostDoses
   pub few-intervals : h .intervals ≤ mostIntervals
-  pub left : Frees (settingIn h) (fansIn h) (setsOf numbers) i fans
+  pub left : Frees (settingIn h) (fansHeld h) (setsOf numbers) i fans
   pub marked : (k : ℕ) → k < mostDoses → getD set k false ≡ setsOf numbers i k
   pub opened : Opens (h .release) (h .deadline) (h .instants) (h .doses) (h .intervals) set fans open-fans
   pub counted : size ≡ weight (h .doses) (λ k. 1) (setOf set)
@@ -39,10 +39,10 @@ module _ {h : OrderHeld} {numbers : List ℕ} {i : ℕ} {fans : List ℕ} {set :
   marks : Alike (h .doses) (setOf set) (C i)
   marks k l = out .marked k (omega (arith, out .few-doses))
 
-  measures : Measured S (free S (fansIn h) C i) (C i) w p open-fans
+  measures : Measured S (free S (fansHeld h) C i) (C i) w p open-fans
   measures =
       measured (h .doses) (h .intervals) (h .release) (h .deadline) (h .grams) (h .instants) (C i) set marks
-      (free S (fansIn h) C i) fans (out .left .left) open-fans w p (out .opened) (out .weighed) (out .timed)
+      (free S (fansHeld h) C i) fans (out .left .left) open-fans w p (out .opened) (out .weighed) (out .timed)
 
   -- a C record that says so is the class's
   pub says-fits : {r : Bool} (c : Class) → Tells r (Says c i size w p) → Tells r (ClassFits h numbers i c)
@@ -55,5 +55,5 @@ module _ {h : OrderHeld} {numbers : List ℕ} {i : ℕ} {fans : List ℕ} {set :
       (λ f. record { number = f .number; doses = f .doses ∙ sym doses; some = f .some; weighs = f .weight ∙ sym weight; lasts = f .time ∙ sym time })
 
   -- and the next class has the fans that are left
-  pub frees-after : (next : List ℕ) → ((j : ℕ) → j < mostIntervals → getD next j 0 ≡ getD fans j 0 - getD open-fans j 0) → Frees S (fansIn h) C (i + 1) next
-  frees-after next e = frees-next S (fansIn h) C i fans open-fans next (out .left) (measures .fans) (λ j l. e j (omega (arith, out .few-intervals)))
+  pub frees-after : (next : List ℕ) → ((j : ℕ) → j < mostIntervals → getD next j 0 ≡ getD fans j 0 - getD open-fans j 0) → Frees S (fansHeld h) C (i + 1) next
+  frees-after next e = frees-next S (fansHeld h) C i fans open-fans next (out .left) (measures .fans) (λ j l. e j (omega (arith, out .few-intervals)))

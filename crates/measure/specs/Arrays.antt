@@ -53,12 +53,12 @@ abbrev pub Below : ℕ → List ℕ → Type 0
 Below b l = (i : ℕ) → getD l i 0 ≤ b
 
 -- "A dose is active in an interval that lies within its window [release, deadline).": interval j, by the instants that bound it
-abbrev pub within : ℕ → ℕ → List ℕ → ℕ → Bool
-within release deadline instants j = leb release (getD instants j 0) && leb (getD instants (j + 1) 0) deadline
+abbrev pub inWindow : ℕ → ℕ → List ℕ → ℕ → Bool
+inWindow release deadline instants j = leb release (getD instants j 0) && leb (getD instants (j + 1) 0) deadline
 
 -- dose k is active in interval j
 abbrev pub reaches : List ℕ → List ℕ → List ℕ → ℕ → ℕ → Bool
-reaches release deadline instants k = within (getD release k 0) (getD deadline k 0) instants
+reaches release deadline instants k = inWindow (getD release k 0) (getD deadline k 0) instants
 
 -- the length of interval j
 abbrev pub lenOf : List ℕ → ℕ → ℕ

@@ -21,7 +21,7 @@ ghost use Rattle.model.specs.Limits.{mostDoses, mostIntervals};
 ghost use Rattle.model.specs.Sets.{sum, weight};
 ghost use Rattle.model.specs.Sets as sets;
 ghost use Rattle.model.specs.Classes.{setNumber};
-ghost use Rattle.measure.specs.Arrays.{setOf, setsOf, within, lenOf, Below};
+ghost use Rattle.measure.specs.Arrays.{setOf, setsOf, inWindow, lenOf, Below};
 ghost use Rattle.measure.specs.Measure.{countIn, Opens};
 
 // The doses of class i, by the number that each dose's class has.
@@ -91,7 +91,7 @@ fn count_dose(
     intervals: usize,
 )
     requires { ⌜ (length (now counts) ≡ mostIntervals) × (intervals ≤ mostIntervals) × ((j : ℕ) → j < intervals → getD (now counts) j 0 ≤ 23) ⌝ }
-    ensures { λ _. ⌜ (length (now (counts .exit)) ≡ mostIntervals) × ((j : ℕ) → j < intervals → getD (now (counts .exit)) j 0 ≡ getD (now (counts .entry)) j 0 + sets.on (within release deadline (now (instants .entry)) j) 1) ⌝ }
+    ensures { λ _. ⌜ (length (now (counts .exit)) ≡ mostIntervals) × ((j : ℕ) → j < intervals → getD (now (counts .exit)) j 0 ≡ getD (now (counts .entry)) j 0 + sets.on (inWindow release deadline (now (instants .entry)) j) 1) ⌝ }
 {
     let mut j = 0;
     while j < intervals {

@@ -208,8 +208,8 @@ cases-pass = tt
 -- ---- slots that are not the planner's: P1's, with that of dose 0 cut in two at second 5
 
 -- dose 1's, as P1 has it
-abbrev pub before : Slot
-before = slot 1 1 0 0 4 0 16 4 1
+abbrev pub faster : Slot
+faster = slot 1 1 0 0 4 0 16 4 1
 
 -- dose 0's to second 5
 abbrev pub early : Slot
@@ -221,7 +221,7 @@ late = slot 1 0 5 0 10 0 20 6 2
 
 -- the three
 abbrev pub split : List Slot
-split = before ∷ early ∷ late ∷ []
+split = faster ∷ early ∷ late ∷ []
 
 -- dose 0 has all its grams at its deadline, where amounts rounded slot by slot lose one of them
 pub split-drawn : drawn split 0 10 ≡ 20

@@ -14,14 +14,14 @@ use Rattle.plan_layout.specs.declared.Tables.{Tables}
 use Rattle.plan_layout.specs.Held.{shareAt, tableFrom}
 use Rattle.classes.specs.declared.TooFast.{TooFast}
 use Rattle.classes.specs.Answer.{AgainstTop, nine}
-use Rattle.plan.specs.Held.{Holds, bytesFrom, membersFrom}
+use Rattle.plan.specs.Held.{TablesHold, bytesFrom, membersFrom}
 use Rattle.plan.specs.Answered.{PlansOrder, WritesOrder, above, planned, plans, unplanned, writes}
 use Rattle.plan.proofs.Holding.{held-bytes, held-slots}
 
 -- ---- an order that was read
 
 -- the plan of arrays that hold the order's classes and shares is written
-pub written : (o : Order) (t : Tables) (x : List ℕ) (m : List (List ℕ)) (h : Holds o t x m) {before after : List ℕ} {slots : ℕ} {r : answers.Planned}
+pub written : (o : Order) (t : Tables) (x : List ℕ) (m : List (List ℕ)) (h : TablesHold o t x m) {before after : List ℕ} {slots : ℕ} {r : answers.Planned}
     → slots ≡ length (tableSlots (tableFrom t x m)) → after ≡ overwritten before (bytesFrom t x m) → r ≡ planned (t .classes) slots
     → WritesOrder o before r after
 written o t x m h {before} {after} {slots} e g q =

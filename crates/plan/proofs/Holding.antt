@@ -24,9 +24,9 @@ use Rattle.plan_layout.specs.declared.Tables.{Tables}
 use Rattle.plan_layout.specs.Held.{fansAt, lenAt, shareAt, tableFrom}
 use Rattle.plan_layout.specs.Laying.{Filled}
 use Rattle.plan_layout.proofs.SameTables.{SameTables, gather-same, slots-same}
-use Rattle.plan.specs.Held.{Holds, bytesFrom, classFrom, classesFrom, membersFrom}
+use Rattle.plan.specs.Held.{TablesHold, bytesFrom, classFrom, classesFrom, membersFrom}
 
-module _ (o : Order) (t : Tables) (x : List ℕ) (m : List (List ℕ)) (h : Holds o t x m) where
+module _ (o : Order) (t : Tables) (x : List ℕ) (m : List (List ℕ)) (h : TablesHold o t x m) where
   abbrev C : ℕ → Doses
   C = membersFrom t
 

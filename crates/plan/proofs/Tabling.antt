@@ -21,7 +21,7 @@ use Rattle.interval.proofs.Laws.{count-is, instant-is}
 use Rattle.measure.specs.Arrays.{setsOf}
 use Rattle.plan_layout.specs.declared.Tables.{Tables}
 use Rattle.plan_layout.specs.Held.{fansAt, shareAt}
-use Rattle.plan.specs.Held.{Holds, TablesOf}
+use Rattle.plan.specs.Held.{TablesHold, TablesOf}
 
 -- the shares of class i
 abbrev sharesBy : List ℕ → List ℕ → ℕ → ℕ → ℕ → ℕ
@@ -44,7 +44,7 @@ module _ {o : code.Order} (fit : Fit (asOrder o)) {s : Instants} (bounds : Insta
   -- the tables hold the order's classes and shares
   pub tables-hold : {shares : List ℕ} {rows : List (List ℕ)} → ((i j : ℕ) → i < p → j < settingOf (asOrder o) .intervals
       → fansAt rows i j ≡ reserved (settingOf (asOrder o)) (fansPresent (asOrder o)) (setsOf numbers) i j)
-      → length shares ≡ cells → ValidShares (asOrder o) p (setsOf numbers) (sharesBy numbers shares) → Holds (asOrder o) t shares rows
+      → length shares ≡ cells → ValidShares (asOrder o) p (setsOf numbers) (sharesBy numbers shares) → TablesHold (asOrder o) t shares rows
   unfolding shareAt
   tables-hold rowed size shared = rw (made .classes-is, made .class-of-is, made .instants-is) (record {
     doses = made .doses-is ∙ doses-is o;

@@ -34,7 +34,7 @@ abbrev pub bytesFrom : Tables → List ℕ → List (List ℕ) → List ℕ
 bytesFrom t shares reserved = recordsBytes (planOf (classesFrom t) (tableSlots (tableFrom t shares reserved)))
 
 -- the arrays hold an order's intervals, its classes, their W, P and reserved fans, and valid shares of them
-pub record Holds (o : Order) (t : Tables) (shares : List ℕ) (rows : List (List ℕ)) : Type 0 where
+pub record TablesHold (o : Order) (t : Tables) (shares : List ℕ) (rows : List (List ℕ)) : Type 0 where
   pub doses : t .doses ≡ settingOf o .doses
   pub intervals : t .intervals ≡ settingOf o .intervals
   pub instants : (j : ℕ) → j ≤ settingOf o .intervals → getD (t .instants) j 0 ≡ instantAt o j

@@ -18,7 +18,7 @@ use Rattle.model.proofs.Lists.{sum-before}
 use Rattle.measure.specs.Arrays.{setsOf}
 use Rattle.plan_layout.specs.declared.Tables.{Tables}
 use Rattle.plan_layout.specs.Held.{fansAt, laneAt, lenAt, shareAt, tableFrom}
-use Rattle.plan_layout.specs.Laying.{Filled, Rooms, Wrote}
+use Rattle.plan_layout.specs.Laying.{Filled, LaneRoom, Wrote}
 use Rattle.plan_layout.proofs.Runs.{gather-fits, gather-more, gather-none}
 
 -- the share of a dose whose class has number c, in the class of number n
@@ -89,7 +89,7 @@ module _ {t : Tables} {x : List ℕ} {m : List (List ℕ)} (h : Filled t x m) wh
 
     -- room for a class
     pub rooms-at : {size size′ : ℕ} {l : Lane} → recordSize * (r + length (intervalSlots (tableFrom t x m) j)) ≤ size → size′ ≡ size → l ≡ laneAt t i j below
-        → Rooms l (λ k. shareAt t x i k j) (t .doses) at size′
+        → LaneRoom l (λ k. shareAt t x i k j) (t .doses) at size′
     unfolding tableFrom
     rooms-at s e f = rw (e, lane-is t x m g f) (record {
       ready = record {

@@ -15,25 +15,25 @@ use Rattle.model.specs.Plans.{Slot, planRecordBytes, slotRecord}
 use Rattle.model.specs.Layout.{Lane, before, behind, cut, laneSlots, line, pieceSlot, uncut}
 use Rattle.model.proofs.Lists.{map-gather, sum-before}
 use Rattle.model.proofs.Wrap.{cut-none, cut-two, cut-uncut}
-use Rattle.plan_layout.specs.Laying.{Ready, Room, Rooms, Wrote}
+use Rattle.plan_layout.specs.Laying.{LaneReady, ShareRoom, LaneRoom, Wrote}
 use Rattle.plan_layout.proofs.Runs.{gather-fits, gather-more, gather-none, wrote-more, wrote-none, wrote-one}
 
 -- a unit of a stretch is in the week
-pub tick : (l : Lane) → Ready l → (s : ℕ) → s ≤ l .len * l .weight → l .start + s / l .weight ≤ week
+pub tick : (l : Lane) → LaneReady l → (s : ℕ) → s ≤ l .len * l .weight → l .start + s / l .weight ≤ week
 tick l r s h = omega (arith, r .week, div-le-of-le-mul (l .weight) {m = s} {n = l .len} (omega arith))
 
 -- ---- a share
 
 -- its class is ready, and what its numbers are at most
 pub record Small (l : Lane) (a x : ℕ) : Type 0 where
-  pub ready : Ready l
+  pub ready : LaneReady l
   pub units : l .len * l .weight ≤ week * l .weight
   pub some : 0 < l .len * l .weight
   pub fan : a / (l .len * l .weight) ≤ mostFans
   pub low : a % (l .len * l .weight) < l .len * l .weight
   pub share : x ≤ l .len * l .weight
 
-module _ {l : Lane} {k a x r size : ℕ} (h : Room l k a x r size) where
+module _ {l : Lane} {k a x r size : ℕ} (h : ShareRoom l k a x r size) where
   stretch : 0 < l .len * l .weight
   stretch = mul-pos (h .ready .wide) (h .ready .heavy)
 
@@ -103,8 +103,8 @@ module _ (l : Lane) (x : ℕ → ℕ) where
     sum-is = rw add-one (omega (arith, h .sum-is, e));
   }
 
-  module _ {n r size : ℕ} (h : Rooms l x n r size) {b₀ b : List ℕ} {at a k : ℕ} (g : Kept b₀ r b at a k) where
-    pub room-at : {size′ s : ℕ} → k < n → size′ ≡ size → s ≡ x k → Room l k a s at size′
+  module _ {n r size : ℕ} (h : LaneRoom l x n r size) {b₀ b : List ℕ} {at a k : ℕ} (g : Kept b₀ r b at a k) where
+    pub room-at : {size′ s : ℕ} → k < n → size′ ≡ size → s ≡ x k → ShareRoom l k a s at size′
     room-at q e f = rw (e, f, g .sum-is) (record {
       ready = h .ready;
       most = h .most k q;

@@ -19,7 +19,7 @@ pub record Wrote {A : Type 0} (kind : A → PlanRecord) (l : List A) (b : List �
   pub now : b′ ≡ written b (recordSize * r) (recordsBytes (map kind l))
 
 -- a class in an interval of the week, on fans up to the eighth
-pub record Ready (l : Lane) : Type 0 where
+pub record LaneReady (l : Lane) : Type 0 where
   pub heavy : 0 < l .weight
   pub light : l .weight ≤ mostWeight
   pub wide : 0 < l .len
@@ -27,15 +27,15 @@ pub record Ready (l : Lane) : Type 0 where
   pub below : l .below ≤ mostFans
 
 -- a share x of dose k at a, of a class that has at most 8 stretches, and room for its records from record r on
-pub record Room (l : Lane) (k a x r size : ℕ) : Type 0 where
-  pub ready : Ready l
+pub record ShareRoom (l : Lane) (k a x r size : ℕ) : Type 0 where
+  pub ready : LaneReady l
   pub most : x ≤ l .len * l .weight
   pub end : a + x ≤ mostFans * (l .len * l .weight)
   pub room : recordSize * (r + length (cut (l .len * l .weight) k a x)) ≤ size
 
 -- the same for the shares of n doses
-pub record Rooms (l : Lane) (x : ℕ → ℕ) (n r size : ℕ) : Type 0 where
-  pub ready : Ready l
+pub record LaneRoom (l : Lane) (x : ℕ → ℕ) (n r size : ℕ) : Type 0 where
+  pub ready : LaneReady l
   pub most : (k : ℕ) → k < n → x k ≤ l .len * l .weight
   pub end : sum n x ≤ mostFans * (l .len * l .weight)
   pub room : recordSize * (r + length (laneSlots l x n)) ≤ size

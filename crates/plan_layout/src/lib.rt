@@ -19,7 +19,7 @@ ghost use Rattle.model.specs.Plans.{slotRecord};
 ghost use Rattle.model.specs.Layout.{cut, pieceSlot, laneSlots, intervalSlots, tableSlots};
 ghost use Rattle.records.specs.Held.{asSlot};
 ghost use Rattle.plan_layout.specs.Held.{asLane, shareAt, laneAt, tableFrom};
-ghost use Rattle.plan_layout.specs.Laying.{Wrote, Ready, Room, Rooms, Filled};
+ghost use Rattle.plan_layout.specs.Laying.{Wrote, LaneReady, ShareRoom, LaneRoom, Filled};
 
 // One class in one interval: where it starts and how long it is, the class's W, P and number, and the fans below its own.
 pub struct Lane {
@@ -45,7 +45,7 @@ pub struct Tables {
 
 // The slot from unit low up to unit high of a fan's stretch: "A moment is a tick plus part/W, part below W."
 fn slot_of(l: Lane, dose: u32, fan: u64, low: u64, high: u64) -> Slot
-    requires { ⌜ Ready (asLane l) × (fan ≤ 9) × (low ≤ l .len * l .weight) × (high ≤ l .len * l .weight) ⌝ }
+    requires { ⌜ LaneReady (asLane l) × (fan ≤ 9) × (low ≤ l .len * l .weight) × (high ≤ l .len * l .weight) ⌝ }
     ensures { λ r. ⌜ asSlot r ≡ pieceSlot (asLane l) (record { fan = fan; dose = dose; low = low; high = high }) ⌝ }
 {
     let w = l.weight as u64;
@@ -65,7 +65,7 @@ fn slot_of(l: Lane, dose: u32, fan: u64, low: u64, high: u64) -> Slot
 // The records of one share, x units laid from unit a of the line on: "A cut share gives two slots. No slot has length zero".
 // Gives back the next record's index.
 fn lay_share(b: &mut [u8], r: usize, l: Lane, dose: u32, a: u64, x: u64) -> usize
-    requires { ⌜ Room (asLane l) dose a x r (length (now b)) ⌝ }
+    requires { ⌜ ShareRoom (asLane l) dose a x r (length (now b)) ⌝ }
     ensures { λ q. ⌜ Wrote slotRecord (map (pieceSlot (asLane l)) (cut (l .len * l .weight) dose a x)) (now (b .entry)) r (now (b .exit)) q ⌝ }
 {
     if x == 0 {
@@ -109,7 +109,7 @@ fn lay_class(
     i: usize,
     j: usize,
 ) -> usize
-    requires { ⌜ Rooms (asLane l) (λ k. shareAt t (now shares) i k j) (t .doses) r (length (now b)) × (t .doses ≤ mostDoses) × (i < mostDoses) × (j < mostIntervals) × (length (now shares) ≡ cells) ⌝ }
+    requires { ⌜ LaneRoom (asLane l) (λ k. shareAt t (now shares) i k j) (t .doses) r (length (now b)) × (t .doses ≤ mostDoses) × (i < mostDoses) × (j < mostIntervals) × (length (now shares) ≡ cells) ⌝ }
     ensures { λ q. ⌜ Wrote slotRecord (laneSlots (asLane l) (λ k. shareAt t (now (shares .entry)) i k j) (t .doses)) (now (b .entry)) r (now (b .exit)) q ⌝ }
 {
     let mut at = r;

@@ -18,7 +18,7 @@ use Rattle.model.specs.Plans.{Class, planOf, planRecordBytes, recordsBytes}
 use Rattle.model.specs.Stands.{Named, InInterval, InOrder, by-interval, by-start, EndsBy, SlotsStand, Stands, unitsOf}
 use Rattle.model.specs.Answers.{Answer, done, Accepts, Planned, Plans, overwritten, Judges}
 use Rattle.model.specs.Cases.{Case, Right, listed, oneFan, caseSets, casePlan, slot}
-use Rattle.model.specs.CaseTests.{before, early, late, split}
+use Rattle.model.specs.CaseTests.{faster, early, late, split}
 use Rattle.model.proofs.Lists.{Pairs-imp}
 use Rattle.model.proofs.Orders.{read-fits}
 use Rattle.demands.proofs.Written.{written-stands}
@@ -63,7 +63,7 @@ of-dose-0 from to l long h = record {
   in-interval = record { low = omega arith; high = omega arith };
 }
 
-of-dose-1 : Named o 2 C before
+of-dose-1 : Named o 2 C faster
 unfolding weight sum P openFans free insert instants listed
 of-dose-1 = record {
   dose = omega arith;
@@ -90,7 +90,7 @@ in-turn =
     then (also (by-interval 0 1 (omega arith) first second) (also (by-interval 0 1 (omega arith) first third) none))
     (then (also (by-start 1 second third refl (omega arith)) none) (then none lone))
   where
-    first : InInterval o 0 before
+    first : InInterval o 0 faster
     first = record { low = omega arith; high = omega arith }
 
     second : InInterval o 1 early
@@ -103,10 +103,10 @@ in-turn =
 apart : Pairs EndsBy split
 apart = then (also one (also two none)) (then (also three none) (then none lone))
   where
-    one : EndsBy before early
+    one : EndsBy faster early
     one = record { by = omega arith }
 
-    two : EndsBy before late
+    two : EndsBy faster late
     two = record { by = omega arith }
 
     three : EndsBy early late

@@ -8,7 +8,7 @@ use Rattle.model.specs.Limits.{mostIntervals}
 use Rattle.measure.specs.Arrays.{setsOf}
 use Rattle.measure.proofs.Free.{Frees, frees-all}
 use Rattle.records.specs.Plan.{classIn}
-use Rattle.judge_clauses.specs.Tests.{ClassFits, OrderHeld, fansIn, settingIn, orderHeld}
+use Rattle.judge_clauses.specs.Tests.{ClassFits, OrderHeld, fansHeld, settingIn, orderHeld}
 use Rattle.judge_clauses.proofs.Tell.{tells-not, tells-off, tells-on, tells-was}
 use Rattle.judge_rates.proofs.Fitting.{WorkedOut, frees-after, says-fits}
 use Rattle.judge_rates.proofs.classes_fit.Statement.{statement}
@@ -17,7 +17,7 @@ use Rattle.judge_rates.proofs.classes_fit.Tie as tie
 abbrev Inv-loop : tie.InvT-loop
 Inv-loop plan p numbers release deadline grams instants doses intervals fans all free₀ i₀ free i =
     let h = orderHeld doses intervals fans release deadline grams instants in
-    (i ≤ p) × Frees (settingIn h) (fansIn h) (setsOf numbers) i free × ((k : ℕ) → k < i → ClassFits h numbers k (classIn plan k))
+    (i ≤ p) × Frees (settingIn h) (fansHeld h) (setsOf numbers) i free × ((k : ℕ) → k < i → ClassFits h numbers k (classIn plan k))
 
 abbrev μ-loop : tie.MeasureT-loop
 μ-loop plan p numbers release deadline grams instants doses intervals fans all free₀ i₀ free i = p - i

@@ -8,14 +8,14 @@ use borrow.Author.Needs.{needs}
 use lib.ListN.{length, getD, length-set}
 use Rattle.model.specs.Limits.{mostIntervals}
 use Rattle.model.specs.Sets.{on}
-use Rattle.measure.specs.Arrays.{within}
+use Rattle.measure.specs.Arrays.{inWindow}
 use Rattle.steps.proofs.Loops.{stored, unreached}
 use Rattle.measure.proofs.count_dose.Statement.{statement}
 use Rattle.measure.proofs.count_dose.Tie as tie
 
 -- the count of interval m with the dose
 abbrev counted : List ℕ → ℕ → ℕ → List ℕ → ℕ → ℕ
-counted before release deadline instants m = getD before m 0 + on (within release deadline instants m) 1
+counted before release deadline instants m = getD before m 0 + on (inWindow release deadline instants m) 1
 
 -- up to interval j the dose is counted
 pub record CountedTo (before : List ℕ) (release deadline : ℕ) (instants counts : List ℕ) (j : ℕ) : Type 0 where
@@ -84,7 +84,7 @@ loop-again c =
     let L = c .before .before .before .before .before .before .loop in
     let so = L .inv .1 in
     let more = c .on .ensures .0 ∙ ap (λ (t : Bool). on t 1) (c .before .before .both .ensures) in
-    let here = ap (λ (n : ℕ). getD (L .counts) (L .j) 0 + n) more ∙ ap (λ (n : ℕ). n + on (within (A .release) (A .deadline) (A .instants .now) (L .j)) 1) (so .ahead (L .j) (omega arith)) in (
+    let here = ap (λ (n : ℕ). getD (L .counts) (L .j) 0 + n) more ∙ ap (λ (n : ℕ). n + on (inWindow (A .release) (A .deadline) (A .instants .now) (L .j)) 1) (so .ahead (L .j) (omega arith)) in (
       omega arith,
       record {
         size = simp length-set (so .size);

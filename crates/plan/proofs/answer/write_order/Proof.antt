@@ -3,7 +3,7 @@ use mathlib.Core.Path.{_≡_}
 use lib.ListN.{length}
 use Rattle.model.specs.Limits.{cells}
 use Rattle.order.specs.Held.{asOrder}
-use Rattle.plan.specs.Held.{Holds}
+use Rattle.plan.specs.Held.{TablesHold}
 use Rattle.plan.proofs.Holding.{filled, roomy}
 use Rattle.order.proofs.Fields.{few-doses}
 use Rattle.plan.proofs.Tabling.{tables-hold}
@@ -22,7 +22,7 @@ tables-of-requires c κs = search needs
 hold : (c : tie.After-write-plan-arg2) →
     let tables = c .before .before in
     let A = tables .before .before .before .before .before .before .args in
-    Holds (asOrder (A .o)) (tables .tables-of .result) (A .shares .now) (A .reserved .now)
+    TablesHold (asOrder (A .o)) (tables .tables-of .result) (A .shares .now) (A .reserved .now)
 hold c =
     let tables = c .before .before in
     let instants = tables .before in
