@@ -29,3 +29,4 @@ pub mod Judging
 pub mod DrawnLine
 pub mod Standing
 pub mod Answers
+pub mod Flows

@@ -1,4 +1,5 @@
--- What comes back (document 01): numbers 0 to 12, places and values, and the sequence of checks of planning, judging, drawing and the pen.
+-- What comes back (documents 01 and 02): numbers 0 to 14, places and values, and the sequence of checks of planning, judging, drawing, the
+-- pen and laying a log beside the plan.
 use mathlib.Core.Path.{_≡_}
 use mathlib.Core.Bool.{Bool, true}
 use mathlib.Core.Logic.{_≢_}
@@ -8,15 +9,16 @@ use lib.Dec.{T, ltb}
 use lib.ListN.{length, drop}
 use Rattle.model.specs.Limits.{planRoom, week}
 use Rattle.model.specs.Sets.{Doses}
-use Rattle.model.specs.Records.{read, refused}
-use Rattle.model.specs.Orders.{Order, readOrder}
+use Rattle.model.specs.Records.{Reading, read, refused}
+use Rattle.model.specs.Orders.{Order, doseAt, readOrder}
 use Rattle.model.specs.Classes.{W, P, free, NextClass, Classes, setNumber}
 use Rattle.model.specs.Intervals.{settingOf, fansPresent}
 use Rattle.model.specs.Shares.{Valid}
 use Rattle.model.specs.Plans.{planOf, planRecords, recordsBytes, slotsRead}
 use Rattle.model.specs.Layout.{slotsOf, classesOf}
 use Rattle.model.specs.Stands.{Stands}
-use Rattle.model.specs.Line.{shut, Point, pointAt}
+use Rattle.model.specs.Line.{shut, Point, drawn, pointAt}
+use Rattle.model.specs.Log.{Logged, Figures, readLog, figures, noFigures}
 
 -- number and place; "refusal 9 returns the first class as a number with bit i for dose i, its W and P"; "Fields not meant are 0"
 pub record Answer : Type 0 where
@@ -138,3 +140,33 @@ pub data Moves (order plan : List ℕ) (pen : Pen) : Drawn → Pen → Type 0 wh
       → Moves order plan pen (noPoint (refusal 12 0)) pen
   moves : (o : Order) → Accepts order o → Stands o plan → pen .dose < settingOf o .doses → pen .tick < week
       → Moves order plan pen (pointOf o plan (pen .dose) (pen .tick + 1)) (record { dose = pen .dose; tick = pen .tick + 1 })
+
+-- ---- a log beside the plan (document 02, C-11): drawing's checks 2 to 11, then 13, 14; "after 12's place", and no tick is given
+
+-- the three figures; "Fields not meant are 0"
+pub record Laid : Type 0 where
+  pub answer : Answer
+  pub figures : Figures
+
+-- no figures come with a refusal
+abbrev pub notLaid : Answer → Laid
+notLaid a = record { answer = a; figures = noFigures }
+
+-- dose d's line in a plan: its drawn amount at each tick
+abbrev pub lineOf : List ℕ → ℕ → ℕ → ℕ
+lineOf plan d = drawn (slotsRead (planRecords plan)) d
+
+-- what a log comes to beside a line, by what its bytes read as
+unfoldable pub laidBy : (ℕ → ℕ) → Reading (List Logged) → Laid
+laidBy line (read records) = record { answer = done; figures = figures line records }
+laidBy line (refused number place) = notLaid (refusal number place)
+
+-- laying the bytes of a log beside dose d's line: "Given a dose and a plan that stands, report exactly .."
+pub data Lays (order plan : List ℕ) (d : ℕ) (log : List ℕ) : Laid → Type 0 where
+  refuses : (a : Answer) → Judges order plan a → a .number ≢ 0 → Lays order plan d log (notLaid a)
+  no-dose : (o : Order) → Accepts order o → Stands o plan → settingOf o .doses ≤ d → Lays order plan d log (notLaid (refusal 11 0))
+  bad-log : (o : Order) → Accepts order o → Stands o plan → d < settingOf o .doses → (number place : ℕ)
+      → readLog (doseAt o d .bay) log ≡ refused number place → Lays order plan d log (notLaid (refusal number place))
+  lays : (o : Order) → Accepts order o → Stands o plan → d < settingOf o .doses → (records : List Logged)
+      → readLog (doseAt o d .bay) log ≡ read records
+      → Lays order plan d log (record { answer = done; figures = figures (lineOf plan d) records })

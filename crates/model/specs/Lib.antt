@@ -10,6 +10,7 @@ pub mod Plans
 pub mod Layout
 pub mod Stands
 pub mod Line
+pub mod Log
 pub mod FreePlans
 pub mod Answers
 pub mod Cases

@@ -69,3 +69,24 @@ mostFanTime = 4838400
 -- "plan buffer under 47,392 bytes (24 classes and 1,457 slots)"
 abbrev pub planRoom : ℕ
 planRoom = 47392
+
+-- ---- logs
+
+-- "at most 4,096": M records, and their bytes
+abbrev pub mostLogged : ℕ
+mostLogged = 4096
+
+abbrev pub logRoom : ℕ
+logRoom = 131072
+
+-- "in 1/1024 gram"
+abbrev pub gramParts : ℕ
+gramParts = 1024
+
+-- "A flow is a multiple of 1/1024 from 0 to 1,000": in 1/1024 gram a second
+abbrev pub mostFlow : ℕ
+mostFlow = 1024000
+
+-- "the counter runs from 4,294,967,295 on to 0": after so many pulses it is where it was
+abbrev pub counterTurn : ℕ
+counterTurn = 4294967296

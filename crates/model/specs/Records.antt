@@ -58,6 +58,10 @@ classKind = 0x43
 abbrev pub slotKind : ℕ
 slotKind = 0x53
 
+-- "M records (0x4D)"
+abbrev pub meterKind : ℕ
+meterKind = 0x4D
+
 -- a part of a record: a number of so many bytes, or so many bytes that are not named. "Bytes not named must be zero."
 pub data Part : Type 0 where
   field : ℕ → Part
@@ -79,6 +83,10 @@ classParts = field 1 ∷ field 1 ∷ field 2 ∷ field 4 ∷ field 4 ∷ blank 2
 abbrev pub slotParts : List Part
 slotParts =
     field 1 ∷ field 1 ∷ field 2 ∷ field 4 ∷ field 4 ∷ field 4 ∷ field 4 ∷ field 4 ∷ field 4 ∷ field 1 ∷ blank 3 ∷ []
+
+-- "M records (0x4D) of 32 bytes, byte 1 form, 2-3 bay, 4-7 tick, 8-11 value, rest zero"
+abbrev pub meterParts : List Part
+meterParts = field 1 ∷ field 1 ∷ field 2 ∷ field 4 ∷ field 4 ∷ blank 20 ∷ []
 
 -- the fields of a record whose parts begin at byte `at`
 unfoldable pub fieldsAt : List Part → List ℕ → ℕ → List ℕ
