@@ -4,10 +4,12 @@ use Prim.Native.Nat.{ℕ}
 use Rattle.model.specs.Records.{fansKind, doseKind, fansParts, doseParts, recordBytes}
 use Rattle.model.specs.Orders as orders
 use Rattle.model.specs.Plans as plans
+use Rattle.model.specs.Log as log
 use Rattle.records.specs.declared.order_records.Fans.{Fans}
 use Rattle.records.specs.declared.order_records.Dose.{Dose}
 use Rattle.records.specs.declared.plan_records.Class.{Class}
 use Rattle.records.specs.declared.plan_records.Slot.{Slot}
+use Rattle.records.specs.declared.log_records.Meter.{Meter}
 
 -- ---- F and D
 
@@ -48,3 +50,8 @@ asSlot s = record {
   time = s .time;
   class = s .class;
 }
+
+-- ---- M
+
+abbrev pub asMeter : Meter → log.Meter
+asMeter m = record { form = m .form; bay = m .bay; tick = m .tick; value = m .value }

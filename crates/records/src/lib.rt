@@ -1,9 +1,13 @@
-// The records of document 01: where a field of an F, a D, a C or an S stands in its bytes is known in this crate alone.
+// The records of documents 01 and 02: where a field of an F, a D, a C, an S or an M stands in its bytes is known in this crate alone.
+pub mod log_records; // log_records.rt: M
 pub mod number; // number.rt: numbers and zeros in bytes
 pub mod order_records; // order_records.rt: F and D
 pub mod plan; // plan.rt: plan bytes, record by record
 pub mod plan_records; // plan_records.rt: C and S
 
+pub use log_records::Meter;
+pub use log_records::meter_blank;
+pub use log_records::meter_in;
 pub use order_records::Dose;
 pub use order_records::Fans;
 pub use order_records::dose_blank;
@@ -37,7 +41,7 @@ ghost use Rattle.model.specs.Records.{recordSize};
 // "All records are 32 bytes".
 pub const RECORD_SIZE: usize = 32;
 
-// The kinds, byte 0 of every record: "F (0x46) fans", "D (0x44) dose", "C (0x43) class", "S (0x53) slot".
+// The kinds, byte 0 of every record: "F (0x46) fans", "D (0x44) dose", "C (0x43) class", "S (0x53) slot", "M records (0x4D)".
 pub const FANS_KIND: u32 = 0x46;
 
 pub const DOSE_KIND: u32 = 0x44;
@@ -45,6 +49,8 @@ pub const DOSE_KIND: u32 = 0x44;
 pub const CLASS_KIND: u32 = 0x43;
 
 pub const SLOT_KIND: u32 = 0x53;
+
+pub const METER_KIND: u32 = 0x4D;
 
 // The kind of a record.
 pub fn kind_of(r: &[u8]) -> u32

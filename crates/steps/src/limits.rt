@@ -1,4 +1,4 @@
-// Limits (document 01), by the names of the definitions (specs/Limits of model).
+// Limits (documents 01 and 02), by the names of the definitions (specs/Limits of model).
 pub const MOST_FANS: u32 = 8;
 
 pub const MOST_TOP: u32 = 1000000;
@@ -24,3 +24,9 @@ pub const CELLS: usize = 1128;
 pub const MOST_MARKS: usize = 72;
 
 pub const PLAN_ROOM: usize = 47392;
+
+pub const LOG_ROOM: usize = 131072;
+
+pub const GRAM_PARTS: u32 = 1024;
+
+pub const MOST_FLOW: u32 = 1024000;
