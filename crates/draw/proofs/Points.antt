@@ -65,7 +65,7 @@ module _ (b : List ℕ) (d : ℕ) (h : Drawable b d) where
   has-time = rw (slots-known b d h) (h .some-time)
 
   -- no amount is more than a dose may have
-  amount-most : (t : ℕ) → unitsBefore slots d t / timeOf slots d ≤ mostGrams
+  pub amount-most : (t : ℕ) → unitsBefore slots d t / timeOf slots d ≤ mostGrams
   amount-most t =
       rw (slots-known b d h)
       (le-of-mul-le-mul-right {k = timeOf (slotsIn (h .records)) d}

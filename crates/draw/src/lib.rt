@@ -18,11 +18,11 @@ ghost use mathlib.Core.Path.{_≡_};
 ghost use mathlib.Core.Bool.{_&&_};
 ghost use Prim.Native.Nat.{_+_, _-_, _/_, _<_, _≤_, min};
 ghost use lib.ListN.{length};
-ghost use Rattle.model.specs.Limits.{mostDoses, week};
+ghost use Rattle.model.specs.Limits.{mostDoses, mostGrams, week};
 ghost use Rattle.model.specs.Sets.{on};
 ghost use Rattle.model.specs.Records.{recordSize};
 ghost use Rattle.model.specs.Plans.{slotsRead, planRecords};
-ghost use Rattle.model.specs.Line.{unitsBefore, timeOf, fedAt, stateAt, pointAt};
+ghost use Rattle.model.specs.Line.{unitsBefore, timeOf, drawn, fedAt, stateAt, pointAt};
 ghost use Rattle.model.specs.Answers.{noPoint, Draws, Moves};
 ghost use Rattle.records.specs.Held.{asSlot};
 ghost use Rattle.records.specs.Plan.{slotIn};
@@ -132,7 +132,7 @@ fn units_before(plan: &[u8], dose: usize, tick: u32) -> u64
 }
 
 // The P that the dose's slots name, as the first has it.
-fn time_of(plan: &[u8], dose: usize) -> u32
+pub fn time_of(plan: &[u8], dose: usize) -> u32
     requires { ⌜ Drawable (now plan) dose ⌝ }
     ensures { λ p. ⌜ p ≡ timeOf (slotsRead (planRecords (now (plan .entry)))) dose ⌝ }
 {
@@ -181,14 +181,23 @@ fn state_of(o: Order, plan: &[u8], dose: usize, tick: u32) -> State
     fed_at(plan, dose, tick)
 }
 
-// "Exact amount at tick t: units of the dose's slots before t, divided by P. Drawn amount: its whole part, one division at the end."
+// "Exact amount at tick t: units of the dose's slots before t, divided by P. Drawn amount: its whole part, one division at the end." `time`
+// is that P, so that a caller who asks at many ticks looks for it once.
+pub fn amount_of(plan: &[u8], dose: usize, time: u32, tick: u32) -> u32
+    requires { ⌜ Drawable (now plan) dose × (time ≡ timeOf (slotsRead (planRecords (now plan))) dose) ⌝ }
+    ensures { λ a. ⌜ (a ≡ drawn (slotsRead (planRecords (now (plan .entry)))) dose tick) × (a ≤ mostGrams) ⌝ }
+{
+    let units = units_before(plan, dose, tick);
+    (units / wide(time)) as u32
+}
+
+// "A point is an amount together with one of four states"
 fn point_of(o: Order, plan: &[u8], dose: usize, tick: u32) -> Point
     requires { ⌜ (o .count ≤ mostDoses) × (dose < o .count) × Drawable (now plan) dose ⌝ }
     ensures { λ p. ⌜ asPoint p ≡ pointAt (asOrder o) (slotsRead (planRecords (now (plan .entry)))) dose tick ⌝ }
 {
-    let units = units_before(plan, dose, tick);
-    let time = wide(time_of(plan, dose));
-    let amount = (units / time) as u32;
+    let time = time_of(plan, dose);
+    let amount = amount_of(plan, dose, time, tick);
     let state = state_of(o, plan, dose, tick);
     Point { amount, state }
 }
