@@ -32,10 +32,10 @@ module _ {order plan : List ℕ} (s : Sound order plan) {r : Reading} (h : ReadF
   abbrev o : orders.Order
   o = s .read-order
 
-  count-again : r .order .count ≡ length (o .doses)
+  pub count-again : r .order .count ≡ length (o .doses)
   count-again = rw (held-again order r h o (s .accepts .reads)) (held-count o)
 
-  order-again : asOrder (r .order) ≡ o
+  pub order-again : asOrder (r .order) ≡ o
   order-again = rw (held-again order r h o (s .accepts .reads)) (as-held o (read-fits order o (s .accepts .reads) .few))
 
   pub drawable : d < r .order .count → Drawable plan d

@@ -1,0 +1,5 @@
+pub mod Steps
+pub mod Walks
+pub mod Settles
+pub mod Layings
+pub mod Once
