@@ -3,13 +3,14 @@
 use mathlib.Core.Path.{_≡_, sym, ap, _∙_}
 use mathlib.Core.List.{List}
 use Prim.Native.Nat.{ℕ}
-use Rattle.model.specs.Answers.{Answer, Judges, Pen}
+use Rattle.model.specs.Answers.{Answer, Judges, Lays, Pen}
 use Rattle.model.specs.Answers as answers
-use Rattle.model.proofs.Answers.{draws-one, judges-one, moves-one}
+use Rattle.model.proofs.Answers.{draws-one, judges-one, lays-one, moves-one}
 use Rattle.knellgable.specs.declared.Planned.{Planned}
 use Rattle.knellgable.specs.declared.Judged.{Judged}
 use Rattle.knellgable.specs.declared.Drawn.{Drawn}
-use Rattle.knellgable.specs.Exported.{DrawnNumbers, DrawsNumbers, MovesNumbers, asJudged, asPlanned, stateNumber, stateFan}
+use Rattle.knellgable.specs.declared.Laid.{Laid}
+use Rattle.knellgable.specs.Exported.{DrawnNumbers, DrawsNumbers, MovesNumbers, asJudged, asLaid, asPlanned, stateNumber, stateFan}
 
 -- ---- planning and judging
 
@@ -71,3 +72,20 @@ pub pens-once : {order plan : List ℕ} {dose tick after after′ : ℕ} {r s : 
 pens-once a b =
     let one = moves-one (a .moves) (b .moves) in
     (same-numbers (one .0) (a .numbers) (b .numbers), ap (λ (p : Pen). p .tick) (one .1))
+
+-- ---- logs
+
+abbrev heldLaid : answers.Laid → Laid
+heldLaid l = record {
+  number = l .answer .number;
+  place = l .answer .place;
+  set = l .answer .set;
+  weight = l .answer .weight;
+  time = l .answer .time;
+  metered = l .figures .metered;
+  risen = l .figures .risen;
+  unknown = l .figures .unknown;
+}
+
+pub logs-once : {order plan : List ℕ} {dose : ℕ} {log : List ℕ} (r s : Laid) → Lays order plan dose log (asLaid r) → Lays order plan dose log (asLaid s) → r ≡ s
+logs-once r s a b = ap heldLaid (lays-one a b)

@@ -9,12 +9,19 @@ use Rattle.draw.specs.Drawing.{answerOf, penAt}
 use Rattle.knellgable.specs.declared.Planned.{Planned}
 use Rattle.knellgable.specs.declared.Judged.{Judged}
 use Rattle.knellgable.specs.declared.Drawn.{Drawn}
+use Rattle.knellgable.specs.declared.Laid.{Laid}
 
 abbrev pub asPlanned : Planned → answers.Planned
 asPlanned r = record { answer = answerOf (r .number) (r .place) (r .set) (r .weight) (r .time); classes = r .classes; slots = r .slots }
 
 abbrev pub asJudged : Judged → Answer
 asJudged r = answerOf (r .number) (r .place) (r .set) (r .weight) (r .time)
+
+abbrev pub asLaid : Laid → answers.Laid
+asLaid r = record {
+  answer = answerOf (r .number) (r .place) (r .set) (r .weight) (r .time);
+  figures = record { metered = r .metered; risen = r .risen; unknown = r .unknown };
+}
 
 -- ---- points
 

@@ -1,10 +1,10 @@
-// The four entry points for C and Rust: numbers and byte slices only. Each hands on what the proved function answers; include/knellgable.h
+// The five entry points for C and Rust: numbers and byte slices only. Each hands on what the proved function answers; include/knellgable.h
 // says the promises in words.
 ghost use mathlib.Core.Path.{_≡_};
-ghost use Rattle.model.specs.Answers.{Plans, Judges};
+ghost use Rattle.model.specs.Answers.{Plans, Judges, Lays};
 ghost use Rattle.judge.specs.Verdict.{asAnswer};
 ghost use Rattle.draw.specs.Drawing.{answerOf, asState, asDrawn};
-ghost use Rattle.knellgable.specs.Exported.{asPlanned, asJudged, stateNumber, stateFan, DrawnNumbers, DrawsNumbers, MovesNumbers};
+ghost use Rattle.knellgable.specs.Exported.{asPlanned, asJudged, asLaid, stateNumber, stateFan, DrawnNumbers, DrawsNumbers, MovesNumbers};
 use draw::State;
 
 // What planning answers: "Fields not meant are 0".
@@ -40,6 +40,19 @@ pub struct Drawn {
     pub amount: u32,
     pub state: u32,
     pub fan: u32,
+}
+
+// What laying a log answers: the same, and the figures: metered and risen in 1/1024 gram, and the seconds unknown.
+#[repr(C)]
+pub struct Laid {
+    pub number: u32,
+    pub place: usize,
+    pub set: u64,
+    pub weight: u64,
+    pub time: u64,
+    pub metered: u64,
+    pub risen: u64,
+    pub unknown: u32,
 }
 
 // An order planned into a lent buffer.
@@ -154,4 +167,22 @@ pub extern "C" fn knellgable_advance(
     let m = draw::move_on(order, plan, dose, *tick);
     *tick = m.tick;
     drawn_numbers(m.drawn)
+}
+
+// A meter log laid beside a dose's line.
+#[no_mangle]
+pub extern "C" fn knellgable_log(order: &[u8], plan: &[u8], dose: usize, log: &[u8]) -> Laid
+    ensures { λ r. ⌜ Lays (now (order .entry)) (now (plan .entry)) dose (now (log .entry)) (asLaid r) ⌝ }
+{
+    let l = log::lay(order, plan, dose, log);
+    Laid {
+        number: l.number,
+        place: l.place,
+        set: l.set,
+        weight: l.weight,
+        time: l.time,
+        metered: l.metered,
+        risen: l.risen,
+        unknown: l.unknown,
+    }
 }
