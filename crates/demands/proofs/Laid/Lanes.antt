@@ -20,7 +20,7 @@ moment τ s W = omega (arith, div-add-mod' s W)
 module _ (l : Lane) (x : ℕ → ℕ) (n m : ℕ) (heavy : 0 < l .weight) (wide : 0 < l .len)
     (most : (k : ℕ) → k < n → x k ≤ l .len * l .weight) (full : sum n x ≡ m * (l .len * l .weight)) where
   -- a slot of the class in the interval
-  pub record Laid (s : Slot) : Type 0 where
+  pub record LaneSlot (s : Slot) : Type 0 where
     pub within : Between (l .start) (l .start + l .len) s
     pub start-part : s .startPart < s .weight
     pub end-part : s .endPart < s .weight
@@ -45,7 +45,7 @@ module _ (l : Lane) (x : ℕ → ℕ) (n m : ℕ) (heavy : 0 < l .weight) (wide 
   placed : All Pl (line (l .len * l .weight) x n)
   placed = line-placed (l .len * l .weight) (mul-pos wide heavy) x n most m (omega arith)
 
-  laid-one : (t : Piece) → Pl t → Laid (pieceSlot l t)
+  laid-one : (t : Piece) → Pl t → LaneSlot (pieceSlot l t)
   unfolding pieceSlot
   laid-one t h =
       let a = moment (l .start) (t .low) (l .weight) in
@@ -65,7 +65,7 @@ module _ (l : Lane) (x : ℕ → ℕ) (n m : ℕ) (heavy : 0 < l .weight) (wide 
       }
 
   -- every slot is one of the class in the interval
-  pub laid : All Laid (laneSlots l x n)
+  pub laid : All LaneSlot (laneSlots l x n)
   unfolding laneSlots
   laid = All-map (pieceSlot l) (All-imp laid-one placed)
 
