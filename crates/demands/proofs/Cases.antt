@@ -5,7 +5,7 @@ pub mod SplitSlot
 use mathlib.Core.Path.{_≡_, refl, sym, ap, ap₂, _∙_}
 use mathlib.Core.Bool.{Bool, true, false, not, _&&_}
 use mathlib.Core.Logic.{inl, inr}
-use mathlib.Core.List.{List, [], _∷_}
+use mathlib.Core.List.{List, []}
 use Prim.Native.Nat.{ℕ, suc, _≤_, _<_}
 use native.Mathlib.Nat.{eq-zero-or-pos}
 use native.Mathlib.Omega.{arith}
@@ -13,7 +13,7 @@ use lib.Dec.{T, T-not, eqb, leb, leb→le}
 use lib.ListN.{length}
 use Rattle.model.specs.Limits.{planRoom, week}
 use Rattle.model.specs.Sets.{Doses}
-use Rattle.model.specs.Lists.{All, none, also}
+use Rattle.model.specs.Lists.{All, none}
 use Rattle.model.specs.Records.{Reading, read, refused, pick}
 use Rattle.model.specs.Orders.{Order, readOrder}
 use Rattle.model.specs.Classes.{Classes, NextClass, Row, free, remaining}
@@ -35,7 +35,7 @@ use Rattle.demands.proofs.Written.{plan-stands, plan-reads}
 use Rattle.model.proofs.Plans.{slots-read}
 use Rattle.demands.proofs.Demand2.Refusing.{first-class}
 use Rattle.model.proofs.Answers.{refuses-one, refused-not-accepted}
-use Rattle.demands.proofs.Cases.Laws.{all-below, next, valid, same-list, same-class, same-slot, same-point, same-answer, empty-list}
+use Rattle.demands.proofs.Cases.Laws.{all-below, all-in, next, valid, same-list, same-class, same-slot, same-point, same-answer, empty-list}
 use Rattle.demands.proofs.Cases.ForcedShares.{one-plan}
 
 -- ---- a row that is refused
@@ -239,12 +239,6 @@ module _ (c : Case) (o : Order) (reads : readOrder (c .order) ≡ read o) where
           moves = λ t e. rw (← same, e) (Moves.moves o accepts stands known (omega arith));
         }
 
-    all-points : (l : List Drawing) → T (allIn (pointTest o c) l) → All (DrawingRight c) l
-    unfolding allIn
-    all-points [] u = none
-    all-points (d ∷ l) u =
-        also (point-right d (and-left (pointTest o c d) (allIn (pointTest o c) l) u)) (all-points l (and-right (pointTest o c d) (allIn (pointTest o c) l) u))
-
     plan-right : Right c
     plan-right = record {
       plans = λ before room. plans-as before room (casePlanned c) (casePlan c) same-planned same-plan;
@@ -252,7 +246,7 @@ module _ (c : Case) (o : Order) (reads : readOrder (c .order) ≡ read o) where
       first = first-of first-one;
       sets = λ o′ g. rw (← one-order o′ (g .reads)) sets-right;
       judged = rw (← same-done) (Judges.stands o accepts stands);
-      points = all-points (c .points) (and-left (allIn (pointTest o c) (c .points)) (sameAnswer done (c .answer)) (parts .2));
+      points = all-in (DrawingRight c) (pointTest o c) point-right (c .points) (and-left (allIn (pointTest o c) (c .points)) (sameAnswer done (c .answer)) (parts .2));
     }
 
 -- a row that passes is right
@@ -273,9 +267,4 @@ row-right c t = go (readOrder (c .order)) refl t
 
 -- P1 to P12
 pub cases-right : All Right cases
-unfolding allIn
-cases-right = all cases cases-pass
-  where
-    all : (l : List Case) → T (allIn caseTest l) → All Right l
-    all [] t = none
-    all (c ∷ l) t = also (row-right c (and-left (caseTest c) (allIn caseTest l) t)) (all l (and-right (caseTest c) (allIn caseTest l) t))
+cases-right = all-in Right caseTest row-right cases cases-pass

@@ -8,12 +8,13 @@ use native.Mathlib.Nat.{le-of-suc-le-suc}
 use native.Mathlib.Omega.{arith}
 use lib.Dec.{T, T-not, not-T, eqb, leb, eqb→eq, leb→le}
 use Rattle.model.specs.Sets.{Doses, Sub, Nonempty}
+use Rattle.model.specs.Lists.{All, none, also}
 use Rattle.model.specs.Classes.{Setting, Row, noDenser, asDense, NextClass}
 use Rattle.model.specs.Shares.{Valid, room, holds, need, got, given}
 use Rattle.model.specs.Plans.{Class, Slot}
 use Rattle.model.specs.Line.{State, finished, shut, idle, dosing, Point}
 use Rattle.model.specs.Answers.{Answer}
-use Rattle.model.specs.CaseTests.{allBelow, everySet, marked, insideTest, someTest, givesWay, nextTest, roomTest, fullTest, metTest, validTest, sameList, sameClass, sameSlot, sameState, samePoint, sameAnswer, emptyList}
+use Rattle.model.specs.CaseTests.{allBelow, allIn, everySet, marked, insideTest, someTest, givesWay, nextTest, roomTest, fullTest, metTest, validTest, sameList, sameClass, sameSlot, sameState, samePoint, sameAnswer, emptyList}
 use Rattle.model.proofs.Sums.{last}
 use Rattle.model.proofs.Sets.{Alike, alike-sub, alike-back, and-left, and-right, and-both, weight-alike}
 use Rattle.model.proofs.FanTime.{P-alike}
@@ -28,6 +29,12 @@ all-below (suc n) f t k l = elim (last l) [
   | inl e ↦ rw e (and-right (allBelow n f) (f n) t)
   | inr q ↦ all-below n f (and-left (allBelow n f) (f n) t) k q
 ]
+
+-- of every member of a list
+pub all-in : {A : Type 0} (P : A → Type 0) (f : A → Bool) → ((a : A) → T (f a) → P a) → (l : List A) → T (allIn f l) → All P l
+unfolding allIn
+all-in P f h [] t = none
+all-in P f h (a ∷ l) t = also (h a (and-left (f a) (allIn f l) t)) (all-in P f h l (and-right (f a) (allIn f l) t))
 
 -- all pass, or one does not
 all-or-one : (n : ℕ) (f : ℕ → Bool) → T (allBelow n f) ⊎ ((k : ℕ) × (k < n) × T (not (f k)))
