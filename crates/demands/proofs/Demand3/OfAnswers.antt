@@ -45,7 +45,8 @@ module _ (order plan : List ℕ) (d : ℕ) where
   done : (t : ℕ) (x : Drawn) → Answers t x → Done order plan d t x
   done t x a = drawn-done order plan d t x (a .draws) (a .zero)
 
-  amount-is : (t : ℕ) (x : Drawn) → Answers t x → x .point .amount ≡ drawn slots d t
+  -- its amount is the dose's line at the tick
+  pub amount-is : (t : ℕ) (x : Drawn) → Answers t x → x .point .amount ≡ drawn slots d t
   amount-is t x a = ap (λ (y : Drawn). y .point .amount) (done t x a .is)
 
   -- "the drawn amount is behind the exact one by less than a gram and never ahead"

@@ -1,0 +1,104 @@
+-- The log's theorems over the answers themselves: for all orders, plans, doses and logs for which laying the log answers 0. Assumes nothing.
+use mathlib.Core.Path.{_≡_, refl, ap, _∙_}
+use mathlib.Core.Logic.{inl, inr}
+use mathlib.Core.List.{List}
+use Prim.Native.Nat.{ℕ, _+_, _*_, _-_, _≤_, _<_}
+use native.Mathlib.Omega.{arith}
+use lib.ListN.{length}
+use Rattle.model.specs.Limits.{gramParts, logRoom}
+use Rattle.model.specs.Lists.{total}
+use Rattle.model.specs.Records.{read}
+use Rattle.model.specs.Orders.{Order, doseAt, readOrder}
+use Rattle.model.specs.Intervals.{settingOf}
+use Rattle.model.specs.Stands.{Stands}
+use Rattle.model.specs.Log.{Logged, figures, ifKnown, metering, noFigures, readLog, seconds, stretches}
+use Rattle.model.specs.Answers.{Accepts, Drawn, Laid, Lays, lineOf}
+use Rattle.model.proofs.Answers.{lays-one, one-order}
+use Rattle.demands.proofs.Demand3.OfAnswers.{Answers, amount-is}
+use Rattle.demands.proofs.Log.Stretches.{AllKnown, firstTick, lastTick}
+use Rattle.demands.proofs.Log.Given.{log-number}
+use Rattle.demands.proofs.Log.Metered.{AddUp}
+use Rattle.demands.proofs.Log.Metered as metered
+use Rattle.demands.proofs.Log.Joined.{Continues, joined, joined-add-up}
+use Rattle.demands.proofs.Log as laid
+
+-- an answer that is no refusal: the order is accepted, the plan stands, the log is read, and the figures are its own
+pub record LogLaid (order plan : List ℕ) (d : ℕ) (log : List ℕ) (x : Laid) : Type 0 where
+  pub read-order : Order
+  pub accepts : Accepts order read-order
+  pub stands : Stands read-order plan
+  pub listed : d < settingOf read-order .doses
+  pub records : List Logged
+  pub reads : readLog (doseAt read-order d .bay) log ≡ read records
+  pub is : x .figures ≡ figures (lineOf plan d) records
+
+-- laying answered 0
+pub laid-done : {order plan : List ℕ} {d : ℕ} {log : List ℕ} {x : Laid} → Lays order plan d log x → x .answer .number ≡ 0 → LogLaid order plan d log x
+laid-done (Lays.refuses a j n) e = absurd (n e)
+laid-done (Lays.no-dose o acc st l) e = absurd (omega arith)
+laid-done {d = d} {log = log} (Lays.bad-log o acc st l number place q) e =
+    elim (log-number (doseAt o d .bay) log number place q) [ inl n ↦ absurd (omega arith) | inr n ↦ absurd (omega arith) ]
+laid-done (Lays.lays o acc st l records q) e =
+    record { read-order = o; accepts = acc; stands = st; listed = l; records = records; reads = q; is = refl }
+
+module _ (order plan : List ℕ) (d : ℕ) (log : List ℕ) (x : Laid) (h : Lays order plan d log x) (z : x .answer .number ≡ 0)
+    (o : Order) (e : readOrder order ≡ read o) (records : List Logged) (r : readLog (doseAt o d .bay) log ≡ read records) where
+  done : LogLaid order plan d log x
+  done = laid-done h z
+
+  same-order : done .read-order ≡ o
+  same-order = let f = done .accepts .reads in cc
+
+  same-records : done .records ≡ records
+  same-records = let f = rw same-order at (done .reads) in cc
+
+  stands : Stands o plan
+  stands = rw same-order at (done .stands)
+
+  -- the dose is one of the order's
+  pub listed : d < settingOf o .doses
+  listed = rw same-order at (done .listed)
+
+  -- the figures are those of the log's records beside the dose's line
+  pub figures-are : x .figures ≡ figures (lineOf plan d) records
+  figures-are = done .is ∙ ap (figures (lineOf plan d)) same-records
+
+  -- the seconds of the known stretches and "the seconds unknown" are all from the first record's tick to the last one's
+  pub seconds-add-up : total (λ s. ifKnown (metering s) (seconds s)) (stretches records) + x .figures .unknown ≡ lastTick records - firstTick records
+  seconds-add-up = rw figures-are (laid.seconds-add-up order o e plan stands d listed log records r)
+
+  pub unknown-within : x .figures .unknown ≤ lastTick records - firstTick records
+  unknown-within = omega (arith, seconds-add-up)
+
+  -- "what the line rose by in the same stretches": where every stretch is known, what drawing answers at the last record's tick less at the first one's
+  pub all-known-rise : AllKnown (stretches records) → (y y′ : Drawn) → Answers order plan d (firstTick records) y → Answers order plan d (lastTick records) y′
+      → (x .figures .risen ≡ gramParts * (y′ .point .amount - y .point .amount)) × (x .figures .unknown ≡ 0)
+  all-known-rise k y y′ a b =
+      rw (figures-are, amount-is order plan d (firstTick records) y a, amount-is order plan d (lastTick records) y′ b)
+      (laid.all-known-rise order o e plan stands d listed log records r k)
+
+  -- and all the grams, where they reach from the release or before to the deadline or behind
+  pub whole-window-rise : AllKnown (stretches records) → firstTick records ≤ doseAt o d .release → doseAt o d .deadline ≤ lastTick records
+      → x .figures .risen ≡ gramParts * doseAt o d .grams
+  whole-window-rise k early late = rw figures-are (laid.whole-window-rise order o e plan stands d listed log records r k early late)
+
+  -- never more than the dose's grams
+  pub risen-at-most-the-grams : x .figures .risen ≤ gramParts * doseAt o d .grams
+  risen-at-most-the-grams = rw figures-are (laid.risen-at-most-the-grams order o e plan stands d listed log records r)
+
+  -- "under two records, all are zero"
+  pub under-two-zero : length records < 2 → x .figures ≡ noFigures
+  under-two-zero l = figures-are ∙ metered.under-two-zero (lineOf plan d) records l
+
+-- two logs that are answered 0, the second from the first's last record on: unless they are too long together, so is the joined log, and its figures are
+-- theirs added up
+pub continued-adds-up : (order plan : List ℕ) (d : ℕ) (log log′ : List ℕ) → Continues log log′ → length (joined log log′) ≤ logRoom → (x y z : Laid)
+    → Lays order plan d log x → Lays order plan d log′ y → Lays order plan d (joined log log′) z → x .answer .number ≡ 0 → y .answer .number ≡ 0
+    → (z .answer .number ≡ 0) × AddUp (x .figures) (y .figures) (z .figures)
+continued-adds-up order plan d log log′ c short x y z hx hy hz ex ey =
+    let a = laid-done hx ex in
+    let b = laid-done hy ey in
+    let o = a .read-order in
+    let j = joined-add-up (lineOf plan d) (doseAt o d .bay) log log′ c short (a .records) (b .records) (a .reads) (rw (one-order (b .accepts) (a .accepts)) at (b .reads)) in
+    let same = lays-one hz (Lays.lays o (a .accepts) (a .stands) (a .listed) (j .0) (j .1)) in
+    (ap (λ (l : Laid). l .answer .number) same, rw (a .is, b .is, same) (j .2))
