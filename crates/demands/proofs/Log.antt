@@ -2,6 +2,7 @@
 pub mod Stretches
 pub mod Metered
 pub mod Given
+pub mod Flow
 pub mod Joined
 pub mod OfAnswers
 use mathlib.Core.Path.{_∙_, _≡_, ap}
