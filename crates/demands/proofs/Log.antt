@@ -4,6 +4,7 @@ pub mod Metered
 pub mod Given
 pub mod Flow
 pub mod Joined
+pub mod Cases
 pub mod OfAnswers
 use mathlib.Core.Path.{_∙_, _≡_, ap}
 use mathlib.Core.List.{List}

@@ -15,3 +15,4 @@ pub mod FreePlans
 pub mod Answers
 pub mod Cases
 pub mod CaseTests
+pub mod LogCases
