@@ -1,4 +1,4 @@
--- Demand 1, sentence by sentence: over the answers of planning, judging, drawing and the pen, for any bytes, doses and ticks whatever. Assumes nothing.
+-- Demand 1, sentence by sentence: over the answers of planning, judging, drawing, the pen and laying a log, for any bytes, doses and ticks whatever. Assumes nothing.
 pub mod ByOrder
 pub mod Agreeing
 pub mod Decided
@@ -13,19 +13,21 @@ use borrow.Author.Tests.{ne-eqb}
 use lib.ListN.{getD, length, take}
 use Rattle.model.specs.Records.{recordSize}
 use Rattle.model.specs.Sets.{Doses}
-use Rattle.model.specs.Orders.{Order}
+use Rattle.model.specs.Orders.{Order, doseAt}
 use Rattle.model.specs.Classes.{Classes}
 use Rattle.model.specs.Intervals.{fansPresent, settingOf}
 use Rattle.model.specs.Layout.{slotsOf}
 use Rattle.model.specs.Stands.{Stands}
 use Rattle.model.specs.Line.{shut}
-use Rattle.model.specs.Answers.{Accepts, Answer, Drawn, Draws, Judges, Moves, Pen, Planned, Plans, planBytes}
-use Rattle.demands.proofs.Demand1.Agreeing.{Agree, plans-agree}
-use Rattle.demands.proofs.Demand1.ByOrder.{drawn-order, judged-order}
-use Rattle.model.proofs.Answers.{draws-one, judges-one, moves-one, pen-draws, pen-goes, plan-settled, refuses-number, same-slots}
-use Rattle.demands.proofs.Demand1.EveryCall.{draws-some, judges-some, moves-some, plans-some}
-use Rattle.demands.proofs.Demand1.Rows.{DrawingRow, GivenExactly, JudgingRow, OnlyMeant, PlanningRow, drawing-given, judging-given, order-meant, planning-given, planning-meant}
+use Rattle.model.specs.Log.{noFigures}
+use Rattle.model.specs.Answers.{Accepts, Answer, Drawn, Draws, Judges, Laid, Lays, Moves, Pen, Planned, Plans, noPoint, notLaid, planBytes}
+use Rattle.demands.proofs.Demand1.Agreeing.{Agree, drawn-laid, laid-drawn, plans-agree}
+use Rattle.demands.proofs.Demand1.ByOrder.{drawn-order, judged-order, laid-order}
+use Rattle.model.proofs.Answers.{draws-one, judges-one, lays-one, moves-one, pen-draws, pen-goes, plan-settled, refuses-number, same-slots}
+use Rattle.demands.proofs.Demand1.EveryCall.{draws-some, judges-some, lays-some, moves-some, plans-some}
+use Rattle.demands.proofs.Demand1.Rows.{DrawingRow, GivenExactly, JudgingRow, LayingRow, OnlyMeant, PlanningRow, drawing-given, judging-given, laying-given, order-meant, planning-given, planning-meant}
 use Rattle.demands.proofs.Demand2.Planning.{kept, plan-in-front}
+use Rattle.demands.proofs.Log.Given.{log-number}
 
 -- ---- "Every order, plan, dose number and second gets an answer; the caller checks nothing beforehand."
 
@@ -45,6 +47,10 @@ drawing-answers = draws-some
 pub pen-answers : (order plan : List ℕ) (pen : Pen) → (x : Drawn) × (to : Pen) × Moves order plan pen x to
 pen-answers = moves-some
 
+-- laying any log beside any dose number's line
+pub laying-answers : (order plan : List ℕ) (d : ℕ) (log : List ℕ) → (x : Laid) × Lays order plan d log x
+laying-answers = lays-some
+
 -- ---- one answer: "Equality of any two answers allowed by a promise is proved; the shares are the listed exception."
 
 -- one verdict
@@ -59,6 +65,10 @@ one-point = draws-one
 pub one-move : {order plan : List ℕ} {pen : Pen} {x y : Drawn} {to to′ : Pen} → Moves order plan pen x to → Moves order plan pen y to′ → (x ≡ y) × (to ≡ to′)
 one-move = moves-one
 
+-- one answer to a log
+pub one-laying : {order plan : List ℕ} {d : ℕ} {log : List ℕ} {x y : Laid} → Lays order plan d log x → Lays order plan d log y → x ≡ y
+one-laying = lays-one
+
 -- one answer of planning: number, place, set, W, P, the count of classes and their records; and the whole buffer where it is refused
 pub one-plan : {order before : List ℕ} {r r′ : Planned} {after after′ : List ℕ} → Plans order before r after → Plans order before r′ after′
     → Agree before r r′ after after′
@@ -70,7 +80,7 @@ pub one-plan-of-the-shares : (o : Order) (p : ℕ) (C C′ : ℕ → Doses) → 
     → (length (slotsOf o p C x) ≡ length (slotsOf o p C′ x′)) × (planBytes o p C x ≡ planBytes o p C′ x′)
 one-plan-of-the-shares o p C C′ c c′ x x′ same = (ap length (same-slots o p C C′ c c′ x x′ same), plan-settled o p C C′ c c′ x x′ same)
 
--- ---- "A refusal is one of the numbered ones": of planning 1 to 9, of judging 2 to 10, of drawing and the pen 2 to 12
+-- ---- "A refusal is one of the numbered ones": of planning 1 to 9, of judging 2 to 10, of drawing and the pen 2 to 12, of laying a log 2 to 11, 13 and 14
 
 -- planning answers 0 to 9
 pub planning-numbers : {order before : List ℕ} {r : Planned} {after : List ℕ} → Plans order before r after → r .answer .number ≤ 9
@@ -97,6 +107,19 @@ pub pen-numbers : {order plan : List ℕ} {pen : Pen} {x : Drawn} {to : Pen} →
     → (x .answer .number ≡ 0) ⊎ ((2 ≤ x .answer .number) × (x .answer .number ≤ 12))
 pen-numbers h = drawing-numbers (pen-draws h)
 
+-- laying a log answers 0, or 2 to 11, or 13 or 14
+pub laying-numbers : {order plan : List ℕ} {d : ℕ} {log : List ℕ} {x : Laid} → Lays order plan d log x
+    → (x .answer .number ≡ 0) ⊎ (((2 ≤ x .answer .number) × (x .answer .number ≤ 11)) ⊎ ((x .answer .number ≡ 13) ⊎ (x .answer .number ≡ 14)))
+laying-numbers (Lays.refuses a j n) = elim (judging-numbers j) [ inl z ↦ inl z | inr m ↦ inr (inl (m .0, omega (arith, m))) ]
+laying-numbers (Lays.no-dose o g h l) = inr (inl (omega arith, omega arith))
+laying-numbers {d = d} {log = log} (Lays.bad-log o g h l number place e) = inr (inr (log-number (doseAt o d .bay) log number place e))
+laying-numbers (Lays.lays o g h l records e) = inl refl
+
+-- by 2 to 11 exactly where drawing at any tick is refused by one of them, and with the same answer
+pub laying-as-drawing : {order plan : List ℕ} {d t : ℕ} {log : List ℕ} {x : Laid} {y : Drawn} → Lays order plan d log x → Draws order plan d t y
+    → (2 ≤ x .answer .number → x .answer .number ≤ 11 → y ≡ noPoint (x .answer)) × (2 ≤ y .answer .number → y .answer .number ≤ 11 → x ≡ notLaid (y .answer))
+laying-as-drawing {t = t} {log = log} h k = (λ low high. draws-one k (laid-drawn h low high t), λ low high. lays-one h (drawn-laid k low high log))
+
 -- ---- "given exactly when": the answer has a number and a place exactly when their row of the table says
 
 -- planning, rows 0 to 9
@@ -115,6 +138,10 @@ drawing-exactly = drawing-given
 pub pen-exactly : {order plan : List ℕ} {pen : Pen} {x : Drawn} {to : Pen} → Moves order plan pen x to
     → GivenExactly (x .answer) (DrawingRow order plan (pen .dose) (pen .tick + 1))
 pen-exactly h = drawing-given (pen-draws h)
+
+-- laying a log, rows 0, 2 to 11, 13 and 14
+pub laying-exactly : {order plan : List ℕ} {d : ℕ} {log : List ℕ} {x : Laid} → Lays order plan d log x → GivenExactly (x .answer) (LayingRow order plan d log)
+laying-exactly = laying-given
 
 -- ---- "Fields not meant are 0, and a state not meant is Shut."
 
@@ -148,8 +175,19 @@ pub pen-fields : {order plan : List ℕ} {pen : Pen} {x : Drawn} {to : Pen} → 
     → OnlyMeant (x .answer) × (x .answer .number ≢ 0 → (x .point .amount ≡ 0) × (x .point .state ≡ shut))
 pen-fields h = drawing-fields (pen-draws h)
 
+-- laying a log: place, set, W and P; and the three figures, which only success has
+pub laying-fields : {order plan : List ℕ} {d : ℕ} {log : List ℕ} {x : Laid} → Lays order plan d log x
+    → OnlyMeant (x .answer) × (x .answer .number ≢ 0 → x .figures ≡ noFigures)
+laying-fields h = (order-meant (laid-order h), none h)
+  where
+    none : {order plan : List ℕ} {d : ℕ} {log : List ℕ} {x : Laid} → Lays order plan d log x → x .answer .number ≢ 0 → x .figures ≡ noFigures
+    none (Lays.refuses a j n) z = refl
+    none (Lays.no-dose o g h l) z = refl
+    none (Lays.bad-log o g h l number place e) z = refl
+    none (Lays.lays o g h l records e) z = absurd (z refl)
+
 -- ---- "and lent memory is then untouched": "A refusal changes no byte and no pen; success changes only the plan's own records." Planning is lent its
--- buffer and the pen itself; judging and drawing are lent nothing that an answer could change.
+-- buffer and the pen itself; judging, drawing and laying a log are lent nothing that an answer could change.
 
 -- a refusal changes no byte
 pub refusal-changes-no-byte : {order before : List ℕ} {r : Planned} {after : List ℕ} → Plans order before r after → r .answer .number ≢ 0 → after ≡ before

@@ -1,21 +1,22 @@
--- Two plannings of an order agree on all but the choice of shares.
+-- Two plannings of an order agree on all but the choice of shares; a log is refused by 2 to 11 as drawing is.
 use mathlib.Core.Path.{_≡_, refl, sym, ap, subst, _∙_}
-use mathlib.Core.Logic.{_≢_}
+use mathlib.Core.Logic.{_≢_, inl, inr}
 use mathlib.Core.List.{List, [], _++_, map, append-assoc}
-use Prim.Native.Nat.{ℕ}
+use Prim.Native.Nat.{ℕ, _≤_}
 use native.Mathlib.Omega.{arith}
 use lib.ListN.{length, drop}
 use Rattle.model.specs.Sets.{Doses}
-use Rattle.model.specs.Orders.{Order}
+use Rattle.model.specs.Orders.{Order, doseAt}
 use Rattle.model.specs.Classes.{Classes}
 use Rattle.model.specs.Plans.{Class, Slot, classRecord, slotRecord, planOf, recordsBytes}
 use Rattle.model.specs.Layout.{slotsOf, classAt, classesOf}
 use Rattle.model.specs.Intervals.{settingOf, fansPresent}
-use Rattle.model.specs.Answers.{Answer, refusal, Planned, Plans, overwritten}
+use Rattle.model.specs.Answers.{Answer, refusal, Planned, Plans, overwritten, Drawn, Draws, noPoint, Laid, Lays, notLaid}
 use Rattle.model.proofs.Lists.{length-singles}
 use Rattle.model.proofs.Plans.{records-append}
 use Rattle.model.proofs.Sequence.{count-unique}
 use Rattle.model.proofs.Answers.{one-order, refuses-one, refused-not-accepted, classes-settled}
+use Rattle.demands.proofs.Log.Given.{log-number}
 
 -- two sequences of classes have one count, and so the same C records
 pub classes-alike : (o : Order) (p p′ : ℕ) (C C′ : ℕ → Doses) → Classes (settingOf o) (fansPresent o) p C → Classes (settingOf o) (fansPresent o) p′ C′
@@ -91,3 +92,22 @@ plans-agree {before = before} (Plans.plans w o g p C c x v) (Plans.plans w′ o�
           ∙ ap (λ (l : List Class). recordsBytes (map classRecord l) ++ back before (classesOf o′ p′ C′) (slotsOf o′ p′ C′ x′)) front;
       kept = λ n. absurd (n refl);
     }
+
+-- ---- a log and drawing
+
+-- a log that is refused by 2 to 11: so is drawing, at any tick
+pub laid-drawn : {order plan : List ℕ} {d : ℕ} {log : List ℕ} {x : Laid} → Lays order plan d log x → 2 ≤ x .answer .number → x .answer .number ≤ 11
+    → (t : ℕ) → Draws order plan d t (noPoint (x .answer))
+laid-drawn (Lays.refuses a j n) low high t = Draws.refuses a j n
+laid-drawn (Lays.no-dose o g h l) low high t = Draws.no-dose o g h l
+laid-drawn {d = d} {log = log} (Lays.bad-log o g h l number place e) low high t =
+    elim (log-number (doseAt o d .bay) log number place e) [ inl n ↦ absurd (omega arith) | inr n ↦ absurd (omega arith) ]
+laid-drawn (Lays.lays o g h l records e) low high t = absurd (omega arith)
+
+-- and the other way, for any log
+pub drawn-laid : {order plan : List ℕ} {d t : ℕ} {y : Drawn} → Draws order plan d t y → 2 ≤ y .answer .number → y .answer .number ≤ 11
+    → (log : List ℕ) → Lays order plan d log (notLaid (y .answer))
+drawn-laid (Draws.refuses a j n) low high log = Lays.refuses a j n
+drawn-laid (Draws.no-dose o g h l) low high log = Lays.no-dose o g h l
+drawn-laid (Draws.too-late o g h l w) low high log = absurd (omega arith)
+drawn-laid (Draws.draws o g h l w) low high log = absurd (omega arith)

@@ -7,16 +7,18 @@ use lib.ListN.{length}
 use native.Mathlib.Omega.{arith}
 use Rattle.model.specs.Limits.{planRoom, week}
 use Rattle.model.specs.Records.{read}
-use Rattle.model.specs.Orders.{Order, readOrder, Dose, restOf}
+use Rattle.model.specs.Orders.{Order, readOrder, Dose, doseAt, restOf}
 use Rattle.model.specs.Intervals.{settingOf}
 use Rattle.model.specs.Stands.{Stands}
-use Rattle.model.specs.Answers.{Accepts, Answer, Drawn, Draws, Judges, Planned, Plans, Refuses, above, refusal, tooFast, unread}
+use Rattle.model.specs.Log.{Logged}
+use Rattle.model.specs.Answers.{Accepts, Answer, Drawn, Draws, Judges, Laid, Lays, Planned, Plans, Refuses, above, refusal, tooFast, unread}
 use Rattle.model.proofs.Given.{Given, given-exactly, Overlap, blank, kind, many-doses, not-one-fans, overlapping, range, wrong-length, wrong-record}
 use Rattle.demands.proofs.Demand2.Refusing.{TooFast}
 use Rattle.demands.proofs.Demand1.ByOrder.{OfOrder, order-accepted, order-refused}
-use Rattle.model.proofs.Answers.{draws-one, judges-one}
+use Rattle.model.proofs.Answers.{draws-one, judges-one, lays-one}
 use Rattle.demands.proofs.Demand1.Agreeing.{plans-agree}
 use Rattle.demands.proofs.Demand1.EveryCall.{accepted-planned}
+use Rattle.demands.proofs.Log.Given.{LogGiven, ReadAs, log-given-exactly, log-read-exactly}
 
 -- ---- rows 2 to 8
 
@@ -75,6 +77,19 @@ pub data DrawingRow (order plan : List ℕ) (d t : ℕ) : ℕ → ℕ → Type 0
   too-late : (o : Order) → Accepts order o → Stands o plan → d < settingOf o .doses → week < t → DrawingRow order plan d t 12 0
   -- 0 "done"
   drawn : (o : Order) → Accepts order o → Stands o plan → d < settingOf o .doses → t ≤ week → DrawingRow order plan d t 0 0
+
+-- of laying a log beside dose d's line: drawing's 2 to 11, "after 12's place, 13 .. then 14"
+pub data LayingRow (order plan : List ℕ) (d : ℕ) (log : List ℕ) : ℕ → ℕ → Type 0 where
+  -- 2 to 10
+  by-judging : (number place : ℕ) → JudgingRow order plan number place → number ≢ 0 → LayingRow order plan d log number place
+  -- 11 "no such dose"
+  no-dose : (o : Order) → Accepts order o → Stands o plan → settingOf o .doses ≤ d → LayingRow order plan d log 11 0
+  -- 13 and 14
+  bad-log : (o : Order) → Accepts order o → Stands o plan → d < settingOf o .doses → (number place : ℕ) → LogGiven (doseAt o d .bay) log number place
+      → LayingRow order plan d log number place
+  -- 0 "done"
+  laid : (o : Order) → Accepts order o → Stands o plan → d < settingOf o .doses → (records : List Logged) → ReadAs (doseAt o d .bay) log records
+      → LayingRow order plan d log 0 0
 
 -- a number and place are the answer's exactly when their row says
 abbrev pub GivenExactly : Answer → (ℕ → ℕ → Type 0) → Type 0
@@ -158,27 +173,52 @@ module _ {order plan : List ℕ} where
         exactly (x .answer) (DrawingRow order plan d t) (drawing-row h)
         (λ number place row. let b = row-draws row in (b .0 .answer, ap (λ (y : Drawn). y .answer) (draws-one (b .1) h), b .2, b .3))
 
+  -- ---- a log beside the plan
+
+  module _ {d : ℕ} {log : List ℕ} where
+    laying-row : {x : Laid} → Lays order plan d log x → LayingRow order plan d log (x .answer .number) (x .answer .place)
+    laying-row (Lays.refuses a j n) = LayingRow.by-judging _ _ (judging-row j) n
+    laying-row (Lays.no-dose o g h l) = LayingRow.no-dose o g h l
+    laying-row (Lays.bad-log o g h l number place e) = bad-log o g h l number place (log-given-exactly (doseAt o d .bay) log number place .0 e)
+    laying-row (Lays.lays o g h l records e) = laid o g h l records (log-read-exactly (doseAt o d .bay) log records .0 e)
+
+    row-lays : {number place : ℕ} → LayingRow order plan d log number place
+        → (x : Laid) × Lays order plan d log x × (x .answer .number ≡ number) × (x .answer .place ≡ place)
+    row-lays (LayingRow.by-judging number place row n) =
+        let b = row-judges row in (_, Lays.refuses (b .0) (b .1) (λ z. n (sym (b .2) ∙ z)), b .2, b .3)
+    row-lays (LayingRow.no-dose o g h l) = (_, Lays.no-dose o g h l, refl, refl)
+    row-lays (bad-log o g h l number place row) =
+        (_, Lays.bad-log o g h l number place (log-given-exactly (doseAt o d .bay) log number place .1 row), refl, refl)
+    row-lays (laid o g h l records r) = (_, Lays.lays o g h l records (log-read-exactly (doseAt o d .bay) log records .1 r), refl, refl)
+
+    -- what laying a log gives, and exactly when
+    pub laying-given : {x : Laid} → Lays order plan d log x → GivenExactly (x .answer) (LayingRow order plan d log)
+    laying-given {x} h =
+        exactly (x .answer) (LayingRow order plan d log) (laying-row h)
+        (λ number place row. let b = row-lays row in (b .0 .answer, ap (λ (y : Laid). y .answer) (lays-one (b .1) h), b .2, b .3))
+
 -- ---- "Fields not meant are 0"
 
--- place with 3, 4, 5 and 8 alone; set, W and P with 9 alone
+-- place with 3, 4, 5, 8, 13 and 14 alone; set, W and P with 9 alone
 pub record OnlyMeant (a : Answer) : Type 0 where
-  pub place : a .number ≢ 3 → a .number ≢ 4 → a .number ≢ 5 → a .number ≢ 8 → a .place ≡ 0
+  pub place : a .number ≢ 3 → a .number ≢ 4 → a .number ≢ 5 → a .number ≢ 8 → a .number ≢ 13 → a .number ≢ 14 → a .place ≡ 0
   pub set : a .number ≢ 9 → a .set ≡ 0
   pub weight : a .number ≢ 9 → a .weight ≡ 0
   pub time : a .number ≢ 9 → a .time ≡ 0
 
 no-place : (number : ℕ) → OnlyMeant (refusal number 0)
-no-place number = record { place = λ a b c d. refl; set = λ n. refl; weight = λ n. refl; time = λ n. refl }
+no-place number = record { place = λ a b c d e f. refl; set = λ n. refl; weight = λ n. refl; time = λ n. refl }
 
 refused-meant : {order : List ℕ} {a : Answer} → Refuses order a → OnlyMeant a
 refused-meant {order} (unread number place e) =
-    record { place = row-place (given-exactly order number place .0 e); set = λ n. refl; weight = λ n. refl; time = λ n. refl }
+    record { place = λ a b c d f g. row-place (given-exactly order number place .0 e) a b c d; set = λ n. refl; weight = λ n. refl; time = λ n. refl }
 refused-meant (above o A e c t) =
-    record { place = λ a b c d. refl; set = λ n. absurd (n refl); weight = λ n. absurd (n refl); time = λ n. absurd (n refl) }
+    record { place = λ a b c d e f. refl; set = λ n. absurd (n refl); weight = λ n. absurd (n refl); time = λ n. absurd (n refl) }
 
 pub order-meant : {order : List ℕ} {a : Answer} → OfOrder order a → OnlyMeant a
 order-meant (order-refused a r) = refused-meant r
-order-meant (order-accepted number o g n) = no-place number
+order-meant (order-accepted number place o g n p) =
+    record { place = λ a b c d e f. p e f; set = λ n. refl; weight = λ n. refl; time = λ n. refl }
 
 pub planning-meant : {order before : List ℕ} {r : Planned} {after : List ℕ} → Plans order before r after → OnlyMeant (r .answer)
 planning-meant (Plans.no-room s) = no-place 1

@@ -1,5 +1,5 @@
--- Demand 2's refusal over the answers themselves: for every order that passes 2 to 8, and every answer that planning, judging, drawing and the pen
--- may give, "the top rate" is the refusal exactly if no plan exists, and the number, W and P that come back show it.
+-- Demand 2's refusal over the answers themselves: for every order that passes 2 to 8, and every answer that planning, judging, drawing, the pen and
+-- laying a log may give, "the top rate" is the refusal exactly if no plan exists, and the number, W and P that come back show it.
 use mathlib.Core.Bool.{true, Bool, false}
 use mathlib.Core.Logic.{_↔_, inl, inr}
 use mathlib.Core.Path.{_≡_, _∙_, ap, refl, sym}
@@ -15,12 +15,12 @@ use Rattle.model.specs.Orders.{Order, readOrder}
 use Rattle.model.specs.Classes.{P, W, setNumber}
 use Rattle.model.specs.Intervals.{fansPresent, settingOf}
 use Rattle.model.specs.FreePlans.{FreePlan}
-use Rattle.model.specs.Answers.{Answer, Drawn, Draws, FirstClass, Judges, Moves, Pen, Planned, Plans}
+use Rattle.model.specs.Answers.{Answer, Drawn, Draws, FirstClass, Judges, Laid, Lays, Moves, Pen, Planned, Plans}
 use Rattle.model.proofs.Sets.{Alike, weight-alike, on-below}
 use Rattle.model.proofs.FanTime.{P-alike}
 use Rattle.model.proofs.NextClass.{next-transport}
 use Rattle.demands.proofs.Demand2.Refusing.{refused-names}
-use Rattle.demands.proofs.Demand1.ByOrder.{OfOrder, drawn-order, judged-order, order-accepted, order-refused, planned-order}
+use Rattle.demands.proofs.Demand1.ByOrder.{OfOrder, drawn-order, judged-order, laid-order, order-accepted, order-refused, planned-order}
 use Rattle.model.proofs.Answers.{pen-draws, refused-not-accepted}
 use Rattle.demands.proofs.Demand2.{names-the-set, refused-exactly, the-set-shows-it}
 use Rattle.model.proofs.Sums.{last}
@@ -70,13 +70,13 @@ shows-none o a B s = the-set-shows-it o B (rw (s .weight, s .time) at (s .above)
 module _ (order : List ℕ) (o : Order) (e : readOrder order ≡ read o) where
   nine : (a : Answer) → OfOrder order a → (a .number ≡ 9) ↔ (FreePlan o → ⊥)
   nine a (order-refused b r) = (λ n. refused-exactly order o e .0 (a, r), λ no. ap (λ (x : Answer). x .number) (refused-names order o e a r .1))
-  nine a (order-accepted number o′ g n) = (
+  nine a (order-accepted number place o′ g n p) = (
     λ z. absurd (n z),
     λ no. let r = refused-exactly order o e .1 no in absurd (refused-not-accepted (r .1) g),
   )
 
   names : (a : Answer) → OfOrder order a → a .number ≡ 9 → Names o a
-  names a (order-accepted number o′ g n) z = absurd (n z)
+  names a (order-accepted number place o′ g n p) z = absurd (n z)
   names a (order-refused b r) z =
       let S = settingOf o in
       let given = names-the-set order o e a r in
@@ -114,6 +114,10 @@ module _ (order : List ℕ) (o : Order) (e : readOrder order ≡ read o) where
   pub pen-refuses-exactly : (plan : List ℕ) (pen : Pen) (x : Drawn) (to : Pen) → Moves order plan pen x to → (x .answer .number ≡ 9) ↔ (FreePlan o → ⊥)
   pen-refuses-exactly plan pen x to h = nine (x .answer) (drawn-order (pen-draws h))
 
+  -- by laying a log
+  pub laying-refuses-exactly : (plan : List ℕ) (d : ℕ) (log : List ℕ) (x : Laid) → Lays order plan d log x → (x .answer .number ≡ 9) ↔ (FreePlan o → ⊥)
+  laying-refuses-exactly plan d log x h = nine (x .answer) (laid-order h)
+
   -- ---- "and the set that shows it is named"
 
   -- by planning
@@ -132,3 +136,7 @@ module _ (order : List ℕ) (o : Order) (e : readOrder order ≡ read o) where
   -- by the pen
   pub pen-names-the-set : (plan : List ℕ) (pen : Pen) (x : Drawn) (to : Pen) → Moves order plan pen x to → x .answer .number ≡ 9 → Names o (x .answer)
   pen-names-the-set plan pen x to h = names (x .answer) (drawn-order (pen-draws h))
+
+  -- by laying a log
+  pub laying-names-the-set : (plan : List ℕ) (d : ℕ) (log : List ℕ) (x : Laid) → Lays order plan d log x → x .answer .number ≡ 9 → Names o (x .answer)
+  laying-names-the-set plan d log x h = names (x .answer) (laid-order h)
