@@ -12,9 +12,10 @@ from pathlib import Path
 from . import sheet
 from .figures import whole_in
 from .library import Library
+from .logs import Log
 from .orders import Order, Wrong, read_order, write_text
 from .plans import Differs, Plan
-from .words import Refusal, check, check_text, line_words, plan_words
+from .words import Refusal, check, check_text, line_words, log_words, plan_words
 
 HOME = Path(__file__).resolve().parent.parent
 LIBRARY, PRINTER = "target/staticlib/libknellgable.so", "target/bin/printer"
@@ -41,7 +42,18 @@ def writable(name: str) -> Path:
     return path
 
 
-KINDS = {"ORDER": read_order, "PLAN": lambda name: Path(name).read_bytes(), "OUT": writable, "DOSE": whole_in}
+def read_bytes(name: str) -> bytes:
+    return Path(name).read_bytes()
+
+
+def dose_number(word: str) -> int:
+    number = whole_in(word)
+    if number is None:
+        raise Wrong("DOSE is not a number")
+    return number
+
+
+KINDS = {"ORDER": read_order, "PLAN": read_bytes, "OUT": writable, "DOSE": dose_number, "LOG": read_bytes}
 
 
 def library_for(order: Order) -> Library:
@@ -57,6 +69,13 @@ def plan_for(order: Order, given: bytes | None) -> Plan:
     data = library.plan(order.data)[1] if given is None else given
     check(library.judge(order.data, data), order, library)
     return Plan(order, data, library)
+
+
+def log_for(plan: Plan, dose: int, data: bytes) -> Log:
+    """A log laid beside a plan that stands, and not refused."""
+    log = Log(plan, dose, data)
+    check(log.laid, plan.order, plan.library, log)
+    return log
 
 
 def both_forms(order: Order) -> Order:
@@ -90,12 +109,15 @@ def judge(order: Order, plan: bytes | None) -> None:
 
 
 @verb("draw ORDER DOSE [PLAN]", "says how much of a dose is in, and by which fan, at seconds of its window")
-def draw(order: Order, dose: int | None, plan: bytes | None) -> None:
-    if dose is None:
-        raise Wrong("DOSE is not a number")
+def draw(order: Order, dose: int, plan: bytes | None) -> None:
     made = plan_for(order, plan)
     check(made.point(dose, 0), order, made.library)
     print(line_words(made, dose))
+
+
+@verb("log ORDER DOSE LOG [PLAN]", "says what a log metered of a dose, what its line rose by, and what is unknown")
+def lay(order: Order, dose: int, log: bytes, plan: bytes | None) -> None:
+    print(log_words(log_for(plan_for(order, plan), dose, log)))
 
 
 @verb("sheet ORDER [PLAN] OUT.html", "writes the page of a plan, or of a refusal")

@@ -1,9 +1,11 @@
-"""Times, rates and counts as people write them. Fractions are cut, never rounded up."""
+"""Times, rates and counts as people write them. Fractions are cut, never rounded up; only percents are rounded."""
 from __future__ import annotations
 
 import re
 from fractions import Fraction
 from math import ceil, floor
+
+from .library import GRAM
 
 DAY = 86400
 DAYS = ("Mon", "Tue", "Wed", "Thu", "Fri", "Sat", "Sun")
@@ -57,6 +59,17 @@ def decimal(fraction: Fraction, digits: int = 3) -> str:
         digits += 1
     words = str(floor(fraction * 10**digits)).rjust(digits + 1, "0")
     return f"{int(words[:-digits]):,}.{words[-digits:]}".rstrip("0").rstrip(".")
+
+
+def grams(parts: int) -> str:
+    """So many 1/1024 gram, exactly: their decimals end at the tenth, as 1,024 is the tenth power of 2."""
+    return f"{decimal(Fraction(parts, GRAM), 10)} g"
+
+
+def in_percent(some: int, whole: int) -> str:
+    """To the nearest tenth, and 0 or 100 only where it is exactly that."""
+    tenths = (2000 * some + whole) // (2 * whole)
+    return decimal(Fraction(min(max(tenths, 1), 999) if 0 < some < whole else tenths, 10)) + " %"
 
 
 def rate(fraction: Fraction) -> str:

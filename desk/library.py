@@ -12,6 +12,7 @@ from pathlib import Path
 from struct import Struct
 
 RECORD, PLAN_ROOM, WEEK = 32, 47392, 604800
+GRAM = 1024  # a log's figures are in 1/1024 gram
 STATES = ("finished", "shut", "idle", "dosing")
 IDLE, DOSING = STATES.index("idle"), STATES.index("dosing")
 NUMBER, SIZE, LARGE = ctypes.c_uint32, ctypes.c_size_t, ctypes.c_uint64
@@ -21,6 +22,7 @@ Answer = make_dataclass("Answer", [
     ("number", NUMBER), ("place", SIZE), ("set", LARGE), ("weight", LARGE), ("time", LARGE)], frozen=True)
 Planned = make_dataclass("Planned", [("classes", SIZE), ("slots", SIZE)], bases=(Answer,), frozen=True)
 Drawn = make_dataclass("Drawn", [("amount", NUMBER), ("state", NUMBER), ("fan", NUMBER)], bases=(Answer,), frozen=True)
+Laid = make_dataclass("Laid", [("metered", LARGE), ("risen", LARGE), ("unknown", NUMBER)], bases=(Answer,), frozen=True)
 
 
 def bound(function, answer: type, *more):
@@ -36,7 +38,7 @@ def bound(function, answer: type, *more):
 
 
 class Library:
-    """The four functions. Orders and plans are any bytes; every call gets one answer."""
+    """The five functions. Orders, plans and logs are any bytes; every call gets one answer."""
 
     def __init__(self, path: Path):
         library = ctypes.CDLL(str(path))
@@ -44,6 +46,7 @@ class Library:
         self.point = bound(library.knellgable_point, Drawn, SIZE, NUMBER)
         self._plan = bound(library.knellgable_plan, Planned)
         self._advance = bound(library.knellgable_advance, Drawn, SIZE, ctypes.POINTER(NUMBER))
+        self._log = bound(library.knellgable_log, Laid, SIZE, ctypes.c_char_p, SIZE)
 
     def plan(self, order: bytes) -> tuple[Planned, bytes]:
         """The answer, and the plan's own bytes."""
@@ -55,6 +58,9 @@ class Library:
         """The answer, and the tick that the pen is at."""
         lent = NUMBER(tick)
         return self._advance(order, plan, dose, lent), lent.value
+
+    def log(self, order: bytes, plan: bytes, dose: int, log: bytes) -> Laid:
+        return self._log(order, plan, dose, log, len(log))
 
 
 @dataclass(frozen=True)
@@ -114,15 +120,29 @@ class Slot(Rated):
         return self.end_tick + Fraction(self.end_part, self.weight)
 
 
+@dataclass(frozen=True)
+class Meter:
+    """A record of a log: its form says whether the reading is missing, a counter's value or a mean flow."""
+    form: int
+    bay: int
+    tick: int
+    value: int
+
+    @property
+    def flow(self) -> float:
+        """The value's bits as a 32-bit float: grams per second."""
+        return Struct("<f").unpack(Struct("<I").pack(self.value))[0]
+
+
 # Each kind's first byte, and how its fields stand in the other 31: docs/RULES.md, "Records".
 LAYOUT = {Fans: (b"F", Struct("<B2xII20x")), Dose: (b"D", Struct("<xHIII16x")),
-          Class: (b"C", Struct("<BHII20x")), Slot: (b"S", Struct("<BHIIIIIIB3x"))}
+          Class: (b"C", Struct("<BHII20x")), Slot: (b"S", Struct("<BHIIIIIIB3x")), Meter: (b"M", Struct("<BHII20x"))}
 KINDS = {byte: kind for kind, (byte, _) in LAYOUT.items()}
 MOST = {kind: rest.unpack(b"\xff" * rest.size) for kind, (_, rest) in LAYOUT.items()}  # what each field can hold
 
 
 def read_records(data: bytes) -> list:
-    """The whole records of any bytes, fields as they stand; None for a kind that is none of the four."""
+    """The whole records of any bytes, fields as they stand; None for a kind that is none of the five."""
     kinds = ((at, KINDS.get(data[at:at + 1])) for at in range(0, len(data) - RECORD + 1, RECORD))
     return [kind and kind(*LAYOUT[kind][1].unpack_from(data, at + 1)) for at, kind in kinds]
 

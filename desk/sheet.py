@@ -185,7 +185,7 @@ def refused_page(refusal: Refusal, order: Order) -> str:
     if refusal.wrong_bytes:
         heads = "".join(f"<th>{at}" for at in range(RECORD))
         cells = "".join(f'<td{" class=wrong" if at in refusal.wrong_bytes else ""}>{byte:02x}'
-                        for at, byte in enumerate(order.bytes_at(answer.place)))
+                        for at, byte in enumerate(refusal.record))
         body += ('<section><h2>Its bytes, in hexadecimal</h2>'
                  f'<table class="bytes"><tr>{heads}<tr>{cells}</table></section>\n')
     if refusal.doses:

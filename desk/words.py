@@ -4,12 +4,14 @@ What is wrong where is asked of the library.
 """
 from __future__ import annotations
 
+from collections.abc import Callable
 from dataclasses import astuple, dataclass
 from fractions import Fraction
 from textwrap import fill
 
-from .figures import count, decimal, listed, rate
-from .library import DOSING, MOST, RECORD, STATES, WEEK, Answer, Dose, Fans, Library, write_record
+from .figures import count, decimal, grams, in_percent, listed, rate
+from .library import DOSING, MOST, RECORD, STATES, WEEK, Answer, Dose, Fans, Library, Meter, write_record
+from .logs import Log
 from .orders import RANGES, ROWS, Order, Wrong, out_of_range
 from .plans import Plan
 
@@ -26,6 +28,8 @@ FACTS = {
     10: "These plan bytes do not stand for the order.",
     11: "There is no such dose.",
     12: "The second is past the week.",
+    13: "The log has a bad length, kind, form or field, or a bay other than the dose's.",
+    14: "A tick of the log is not above the one before.",
 }
 LINES = 24  # of a dose in words
 GOOD = {Dose: Dose(1, 0, WEEK, 1), Fans: Fans(1, 1, 1)}
@@ -37,6 +41,7 @@ class Refusal(Exception):
     answer: Answer
     detail: list[str]
     doses: list[int]
+    record: bytes
     wrong_bytes: list[int]
 
     def __str__(self) -> str:
@@ -59,9 +64,9 @@ def window_words(order: Order, dose: int) -> str:
     return f"{dose_words(order, dose)}: {window.grams:,} g, {times}"
 
 
-def check(answer: Answer, order: Order, library: Library) -> None:
+def check(answer: Answer, order: Order, library: Library, log: Log | None = None) -> None:
     """Raises the refusal that an answer is, if it is one."""
-    number, at, doses, wrong_bytes = answer.number, answer.place, [], []
+    number, at, doses, data, wrong_bytes = answer.number, answer.place, [], b"", []
     if number == 0:
         return
     fans = listed([order.place(i) for i, record in enumerate(order.records) if isinstance(record, Fans)])
@@ -69,6 +74,7 @@ def check(answer: Answer, order: Order, library: Library) -> None:
               7: [f"this one has {len(order.doses)}"],
               11: [f"this order has {count(len(order.doses), 'dose')}, numbered from 0"]}.get(number, [])
     if number in (3, 4, 5):
+        data = order.bytes_at(at)
         said, wrong_bytes = wrong_record(number, order, at, library)
         dose = f", dose {order.places.index(at)}" if at in order.places else ""
         detail = [f"record {at}, counted from 0{dose}: {said}"]
@@ -76,7 +82,11 @@ def check(answer: Answer, order: Order, library: Library) -> None:
         detail, doses = overlap(order, order.places.index(at), library)
     elif number == 9:
         detail, doses = too_fast(answer, order)
-    raise Refusal(answer, detail, doses, wrong_bytes)
+    elif number in (13, 14):
+        data = log.data[RECORD * at:RECORD * (at + 1)]
+        said, wrong_bytes = wrong_log(log, data)
+        detail = [said]
+    raise Refusal(answer, detail, doses, data, wrong_bytes)
 
 
 def wrong_record(number: int, order: Order, at: int, library: Library) -> tuple[str, list[int]]:
@@ -87,30 +97,66 @@ def wrong_record(number: int, order: Order, at: int, library: Library) -> tuple[
     if number == 4:
         alone = [bytes(byte if i in (0, here) else 0 for i, byte in enumerate(data)) for here in range(RECORD)]
         found = [here for here in range(RECORD) if library.judge(alone[here]).number == 4]
-        return listed([f"byte {here} is {data[here]:02x}" for here in found]) + ", where 00 must be", found
-    kind, wrong = type(record), values_out_of_range(record, library)
-    said = "; ".join(f"{column} is {value:,}, and may be {RANGES[column]}" for column, value in wrong.items())
-    filled = kind(*(most if column in wrong else 0 for column, most in zip(ROWS[kind][1], MOST[kind])))
-    return said, [here for here, byte in enumerate(write_record(filled)) if here and byte]
+        return not_zero(data, found), found
+    wrong, values = out_of_range_in(record, library), [*zip(ROWS[type(record)][1], astuple(record))]
+    said = [f"{column} is {value:,}, and may be {RANGES[column]}" for column, value in values]
+    return "; ".join(said[i] for i in wrong), bytes_of(type(record), wrong)
 
 
-def values_out_of_range(record: Dose | Fans, library: Library) -> dict[str, int]:
-    """Those that are refused 5 each alone in a good record; else the last one that, made good, mends its own."""
-    kind, own, good = type(record), astuple(record), astuple(GOOD[type(record)])
+def wrong_log(log: Log, data: bytes) -> tuple[str, list[int]]:
+    """What is wrong in a log's length or its refused record, and the bytes of that record that 13 is for."""
+    at, order, size = log.laid.place, log.plan.order, len(log.data)
+    good = Meter(1, order.doses[log.dose].bay, 0, 0)  # a counter may have any value
+    if log.lay((write_record(good) * (size // RECORD + 1))[:size]).number == 13:  # good records of that length
+        return f"it has {count(size, 'byte')}, and may have whole records of 32 bytes, at most 4,096 of them", []
+    record, named = log.records[at], f"record {at} of the log of dose {log.dose}, counted from 0"
+    if log.laid.number == 14:
+        now, before = (order.time(log.records[i].tick) for i in (at, at - 1))
+        return f"{named}: its time is {now}, and that of the one before is {before}", []
+    if not isinstance(record, Meter):
+        return f"{named}: its first byte is {data[0]:02x}, not 4d (M)", [0]
+    found = [here for here, byte in enumerate(write_record(record)) if byte != data[here]]
+    if found:
+        return f"{named}: {not_zero(data, found)}", found
+    wrong = faults(record, good, lambda alone: log.lay(alone).number == 13)
+    said = [f"form is {record.form}, and may be 0 (missing), 1 (counter) or 2 (flow)",
+            f"bay is {record.bay}, and that of dose {log.dose} is {good.bay}",
+            f"tick is {record.tick:,}, and may be 0 to 604,800, which is Sun 24:00",
+            f"flow is {record.flow} g/s, and may be a multiple of 1/1024 from 0 to 1,000" if record.form
+            else f"value is {record.value:,}, and a missing reading has 0"]
+    return f"{named}: {'; '.join(said[i] for i in wrong)}", bytes_of(Meter, wrong)
 
-    def refused(*values: int) -> bool:
-        return library.judge(write_record(kind(*values))).number == 5
-    alone = [i for i in range(len(own)) if refused(*good[:i], own[i], *good[i + 1:])]
-    mends = [i for i in range(len(own)) if not refused(*own[:i], good[i], *own[i + 1:])]
-    return {ROWS[kind][1][i]: own[i] for i in alone or mends[-1:]}
+
+def not_zero(data: bytes, found: list[int]) -> str:
+    return listed([f"byte {here} is {data[here]:02x}" for here in found]) + ", where 00 must be"
+
+
+def bytes_of(kind: type, chosen: list[int]) -> list[int]:
+    """Where some fields of a record stand."""
+    filled = kind(*(most if i in chosen else 0 for i, most in enumerate(MOST[kind])))
+    return [here for here, byte in enumerate(write_record(filled)) if here and byte]
+
+
+def faults(record: Dose | Fans | Meter, good: Dose | Fans | Meter, refused: Callable[[bytes], bool]) -> list[int]:
+    """The fields that are refused each alone in a good record; else the last one that, made good, mends its own."""
+    kind, own, right = type(record), astuple(record), astuple(good)
+    alone = [i for i in range(len(own)) if refused(write_record(kind(*right[:i], own[i], *right[i + 1:])))]
+    mends = [i for i in range(len(own)) if not refused(write_record(kind(*own[:i], right[i], *own[i + 1:])))]
+    return alone or mends[-1:]
+
+
+def out_of_range_in(record: Dose | Fans, library: Library) -> list[int]:
+    return faults(record, GOOD[type(record)], lambda alone: library.judge(alone).number == 5)
 
 
 def check_text(order: Order, library: Library) -> None:
     """A text is wrong where the library refuses a value of it as out of range."""
     answer = library.judge(order.data)
     if order.lines and answer.number == 5:
-        column, value = [*values_out_of_range(order.records[answer.place], library).items()][0]
-        words = out_of_range(order.lines[answer.place], column, order.cell(column, value))
+        record = order.records[answer.place]
+        first = out_of_range_in(record, library)[0]
+        column = ROWS[type(record)][1][first]
+        words = out_of_range(order.lines[answer.place], column, order.cell(column, astuple(record)[first]))
         raise Wrong(f"{order.name}: {words}")
 
 
@@ -166,3 +212,19 @@ def line_words(plan: Plan, dose: int) -> str:
         by = f" by fan {point.fan}" if point.state == DOSING else ""
         words.append(f"  {time:12}  {point.amount:>9,} g  {STATES[point.state]}{by}")
     return "\n".join(words)
+
+
+def log_facts(log: Log) -> list[tuple[str, str]]:
+    """The three figures of a log, each under its name; under two readings no stretch is there to be unknown."""
+    laid, whole = log.laid, log.ticks[-1] - log.ticks[0] if log.ticks else 0
+    of_time = f" of {whole:,} s, {in_percent(laid.unknown, whole)}" if whole else ": no stretch is there"
+    return [("metered", f"{grams(laid.metered)} in known stretches"),
+            ("the line rose by", f"{grams(laid.risen)} in the same stretches"),
+            ("unknown", f"{laid.unknown:,} s{of_time}")]
+
+
+def log_words(log: Log) -> str:
+    order, ticks = log.plan.order, log.ticks
+    when = f", {order.time(ticks[0])} to {order.time(ticks[-1], True)}" if len(ticks) > 1 else ""
+    return "\n".join([window_words(order, log.dose), count(len(ticks), "reading") + when,
+                      *(f"  {name:16}  {words}" for name, words in log_facts(log))])

@@ -26,6 +26,11 @@ def dose_bytes(bay, release, deadline, grams):
     return struct.pack("<BBHIII16x", 0x44, 0, bay, release, deadline, grams)
 
 
+def meter_bytes(form, bay, tick, value=0):
+    """A record of a log; the value of a flow, form 2, in grams per second."""
+    return struct.pack("<BBHII20x" if form != 2 else "<BBHIf20x", 0x4D, form, bay, tick, value)
+
+
 def random_order(chance, most=24):
     """Whole records with fields in range, one F anywhere; bays may clash and rates be too high."""
     span = chance.choice([30, 5000, 86400, 604800])
