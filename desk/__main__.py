@@ -3,6 +3,7 @@ from __future__ import annotations
 
 import argparse
 import os
+import re
 import signal
 import subprocess
 import sys
@@ -53,7 +54,15 @@ def dose_number(word: str) -> int:
     return number
 
 
-KINDS = {"ORDER": read_order, "PLAN": read_bytes, "OUT": writable, "DOSE": dose_number, "LOG": read_bytes}
+def log_of_dose(word: str) -> tuple[int, bytes]:
+    number, _, name = word.partition("=")
+    if not name:
+        raise Wrong(f"{word} is not DOSE=LOG")
+    return dose_number(number), read_bytes(name)
+
+
+KINDS = {"ORDER": read_order, "PLAN": read_bytes, "OUT": writable, "DOSE": dose_number, "LOG": read_bytes,
+         "DOSE=LOG": log_of_dose}
 
 
 def library_for(order: Order) -> Library:
@@ -120,14 +129,15 @@ def lay(order: Order, dose: int, log: bytes, plan: bytes | None) -> None:
     print(log_words(log_for(plan_for(order, plan), dose, log)))
 
 
-@verb("sheet ORDER [PLAN] OUT.html", "writes the page of a plan, or of a refusal")
-def make_sheet(order: Order, plan: bytes | None, out: Path) -> None:
+@verb("sheet ORDER [PLAN] OUT.html [--log DOSE=LOG]", "writes the page of a plan, with such logs, or of a refusal")
+def make_sheet(order: Order, plan: bytes | None, out: Path, log: list[tuple[int, bytes]]) -> None:
     try:
         made = plan_for(order, plan)
+        logs = [log_for(made, *given) for given in log]
     except Refusal as refusal:
         out.write_text(sheet.refused_page(refusal, order), "utf-8", "replace")
         raise
-    out.write_text(sheet.planned_page(made), "utf-8", "replace")
+    out.write_text(sheet.planned_page(made, logs), "utf-8", "replace")
     print(f"{out}: {sheet.title_of(made)}, the plan stands")
 
 
@@ -163,15 +173,17 @@ def run(words: list[str]) -> int:
         raise Wrong(f"{f'no verb {words[0]!r}' if words else 'no verb'}: ./knell help says which there are")
     use, _, function = VERBS[words[0]]
     parser = Parser(usage=f"./knell {use}", add_help=False)
-    for word in use.split()[1:]:
-        name = word.strip("[]")
+    for word in re.findall(r"\[.*?\]|\S+", use)[1:]:
+        name, _, value = word.strip("[]").partition(" ")
         kind = name.partition(".")[0]
-        if name.startswith("--"):
+        if value:
+            parser.add_argument(name, action="append", metavar=value, type=KINDS[value], default=[])
+        elif name.startswith("--"):
             parser.add_argument(name, action="store_true")
         else:
             parser.add_argument(kind.lower(), metavar=name, type=KINDS[kind], nargs="?" if name != word else None)
     try:
-        return function(**vars(parser.parse_args(words[1:]))) or 0
+        return function(**vars(parser.parse_intermixed_args(words[1:]))) or 0
     except Refusal as refusal:  # what text prints may go into a file
         print(refusal, file=sys.stderr if function is to_text else sys.stdout)
         return 1

@@ -7,14 +7,15 @@ from html import escape
 from math import ceil, floor
 
 from .figures import DAY, clock
-from .library import Dose, Drawn
+from .library import Drawn
 
 WIDE, TALL = 20000, 1000  # units of the box that a line is drawn in
 NARROW, MIDDLE, BROAD = 470, 660, 900  # pixels of time axis that labels are fitted to
 STEPS = (1, 2, 5, 10, 15, 30, 60, 120, 300, 600, 900, 1800, 3600, 7200, 10800, 21600, 43200, DAY)
 APART = 54  # pixels between two times on the axis
 LEAST = Fraction(1, 10**10)  # of the width: a box without any is not drawn, and neither is its edge
-LINE, BARS = 54, 62  # percent of a dose's row: how high its line is, and where its bars begin
+TOP, LINE, BARS = 5, 54, 62  # percent of a dose's row: what is above its line, how high that is, where its bars begin
+LOGGED = 90  # percent of a log's row: how high the line is
 
 
 class Axis:
@@ -93,22 +94,37 @@ def fitted(left: Fraction, right: Fraction, y: str, words: str, kind: str) -> st
     return "" if width is None else text((left + right) / 2, y, words, kind + width)
 
 
-def steps(axis: Axis, dose: Dose, drawn: list[tuple[int, Drawn]], hue: str) -> str:
-    """Steps that come late and low, across rounded up and height rounded down: never above the drawn amount."""
-    start = ceil(axis.at(dose.release) * WIDE)
-    path = f"M{start} {TALL}" + "".join(
-        f"H{ceil(axis.at(tick) * WIDE)}V{TALL - point.amount * TALL // dose.grams}" for tick, point in drawn)
-    return (f'<svg y="5%" height="{LINE}%" viewBox="0 0 {WIDE} {TALL}" preserveAspectRatio="none">'
-            f'<path class="under {hue}" d="{path}V{TALL}H{start}"/><path class="line" d="{path}"/></svg>')
+def steps(axis: Axis, points: Iterable[tuple[int, Fraction | int]], full: Fraction | int) -> str:
+    """Steps that come late and low, across rounded up and height rounded down: never above the amount."""
+    start, *rest = ((ceil(axis.at(tick) * WIDE), TALL - amount * TALL // full) for tick, amount in points)
+    return f"M{start[0]} {start[1]}" + "".join(f"H{across}V{down}" for across, down in rest)
+
+
+def line(axis: Axis, drawn: list[tuple[int, Drawn]], full: Fraction | int, hue: str, height: int = LINE,
+         metered: Iterable[list[tuple[int, Fraction]]] = ()) -> str:
+    """A dose's line, filled below, and beside it runs of what was metered."""
+    path = steps(axis, ((tick, point.amount) for tick, point in drawn), full)
+    runs = "".join(f'<path class="metered" d="{steps(axis, run, full)}"/>' for run in metered)
+    return (f'<svg y="{TOP}%" height="{height}%" viewBox="0 0 {WIDE} {TALL}" preserveAspectRatio="none">'
+            f'<path class="under {hue}" d="{path}V{TALL}"/><path class="line" d="{path}"/>{runs}</svg>')
+
+
+def dot(axis: Axis, tick: int, part: Fraction) -> str:
+    """A reading, at a part of the height of a log's line."""
+    top = (TOP + LOGGED * (1 - part)) / 100
+    return f'<circle class="reading" cx="{percent(axis.at(tick))}" cy="{percent(top)}" r="2.5"/>'
+
+
+def grid(axis: Axis) -> str:
+    return "".join([*(rule(axis.at(tick), "grid") for tick in axis.ticks(NARROW)),
+                    *(rule(piece[2], "turn") for piece in axis.pieces[1:])])
 
 
 def shared(axis: Axis) -> str:
     """What every row refers to: the hatching and the grid."""
-    lines = "".join(rule(axis.at(tick), "grid") for tick in axis.ticks(NARROW))
-    turns = "".join(rule(piece[2], "turn") for piece in axis.pieces[1:])
     return ('<defs><pattern id="hatch" width="5" height="5" patternUnits="userSpaceOnUse" '
             'patternTransform="rotate(45)">'
-            f'<rect class="hatch" width="1" height="5"/></pattern><g id="grid">{lines}{turns}</g></defs>')
+            f'<rect class="hatch" width="1" height="5"/></pattern><g id="grid">{grid(axis)}</g></defs>')
 
 
 def times(axis: Axis) -> str:

@@ -1,6 +1,7 @@
 """A plan that stands, by fan and by dose, and the checks without which no sheet is written."""
 from __future__ import annotations
 
+from collections.abc import Iterable
 from dataclasses import replace
 from fractions import Fraction
 from math import ceil, floor
@@ -46,13 +47,14 @@ class Plan:
             at = slot.end
         return found
 
-    def points(self, dose: int, most: int) -> list[tuple[int, Drawn]]:
+    def points(self, dose: int, most: int, more: Iterable[int] = ()) -> list[tuple[int, Drawn]]:
         """The dose as the library draws it: at its window's ends, at slot edges and at about so many ticks between.
+        Where more ticks are asked for, at those in its window too.
 
         Checked: its fan is that of the bar there."""
         window, slots = self.order.doses[dose], self.of_dose(dose)
         step = max(1, ceil(sum(slot.end - slot.start for slot in slots) / most))
-        ticks = {window.release, window.deadline}
+        ticks = {window.release, window.deadline, *(at for at in more if window.release < at < window.deadline)}
         for slot in slots:
             ticks.update((floor(slot.start), floor(slot.end), ceil(slot.end)))
             ticks.update(range(ceil(slot.start), ceil(slot.end), step))
