@@ -28,7 +28,7 @@ pub fn accept(bytes: &[u8]) -> Result<House, Judged> {
 }
 
 fn accept_by(bytes: &[u8], find: Finder) -> Result<House, Judged> {
-    let order = read(bytes).map_err(|r| Judged { number: r.number, place: r.place, ..Judged::default() })?;
+    let order = read(bytes).map_err(|r| refusal(r.number, r.place))?;
     let spans = Intervals::of(&order);
     let classes = find(&order, &spans);
     match classes.first() {
@@ -92,6 +92,10 @@ impl House {
     }
 }
 
+pub fn refusal(number: u32, place: usize) -> Judged {
+    Judged { number, place: place as u32, ..Judged::default() }
+}
+
 pub fn planned(j: Judged) -> Planned {
     Planned { number: j.number, place: j.place, set: j.set, weight: j.weight, time: j.time, ..Planned::default() }
 }
@@ -101,7 +105,7 @@ pub fn not_drawn(j: Judged) -> Drawn {
 }
 
 pub fn refused(number: u32) -> Drawn {
-    not_drawn(Judged { number, ..Judged::default() })
+    not_drawn(refusal(number, 0))
 }
 
 pub fn drawn(p: Point) -> Drawn {
@@ -120,6 +124,16 @@ pub struct Own(Finder);
 /// Classes over all subsets where there are few doses; classes by flows always.
 pub const OWN: Own = Own(classes::all);
 pub const OWN_FLOW: Own = Own(classes::by_flow);
+
+impl Own {
+    /// What is asked of a plan that stands; else 2 to 10, as this entry point gives a refusal.
+    fn ask<T>(&self, order: &[u8], plan: &[u8], refuse: fn(Judged) -> T, answer: impl FnOnce(&House, &[Slot]) -> T) -> T {
+        match accept_by(order, self.0) {
+            Err(j) => refuse(j),
+            Ok(house) => house.stands(plan).map_or_else(|_| refuse(refusal(10, 0)), |slots| answer(&house, &slots)),
+        }
+    }
+}
 
 impl Peer for Own {
     fn name(&self) -> &'static str {
@@ -142,24 +156,14 @@ impl Peer for Own {
     }
 
     fn judge(&self, order: &[u8], plan: &[u8]) -> Judged {
-        match accept_by(order, self.0) {
-            Err(j) => j,
-            Ok(house) if house.stands(plan).is_ok() => Judged::default(),
-            Ok(_) => Judged { number: 10, ..Judged::default() },
-        }
+        self.ask(order, plan, |j| j, |_, _| Judged::default())
     }
 
     fn point(&self, order: &[u8], plan: &[u8], dose: usize, tick: u32) -> Drawn {
-        match accept_by(order, self.0) {
-            Err(j) => not_drawn(j),
-            Ok(house) => house.stands(plan).map_or(refused(10), |slots| house.draw(&slots, dose, tick)),
-        }
+        self.ask(order, plan, not_drawn, |house, slots| house.draw(slots, dose, tick))
     }
 
     fn advance(&self, order: &[u8], plan: &[u8], dose: usize, tick: &mut u32) -> Drawn {
-        match accept_by(order, self.0) {
-            Err(j) => not_drawn(j),
-            Ok(house) => house.stands(plan).map_or(refused(10), |slots| house.step(&slots, dose, tick)),
-        }
+        self.ask(order, plan, not_drawn, |house, slots| house.step(slots, dose, tick))
     }
 }

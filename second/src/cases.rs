@@ -1,6 +1,6 @@
 //! Document 01's bench examples P1 to P12, its run line and its whole print of P2, asked of a peer.
 
-use crate::answers::accept;
+use crate::answers::{accept, refusal};
 use crate::checks::Checks;
 use crate::library::{Drawn, Judged, DOSING, FINISHED, IDLE, SHUT};
 use crate::orders::{number, write, Dose, Order, RECORD};
@@ -141,14 +141,13 @@ pub fn proved(c: &mut Checks) {
     c.refused("P9", &write(&p9(), 0), Judged { number: 9, place: 0, set: 1, weight: 10, time: 3 });
     let plan = example(c, "P10", &order(3, TOP, &[]), &[], &[]);
     print(c, "P10, printed whole", &order(3, TOP, &[]), &plan, "total 0 0\n");
-    c.refused("P11", &[], Judged { number: 6, ..Judged::default() });
+    c.refused("P11", &[], refusal(6, 0));
     let p12_slots = [[1, 0, 0, 0, 4, 0, 1], [1, 1, 4, 0, 8, 0, 1]];
     example(c, "P12 touching", &one_bay(&[(0, 4, 10), (4, 8, 10)]), &[(3, 20, 8)], &p12_slots);
-    c.refused("P12 overlapping", &write(&one_bay(&[(0, 4, 10), (3, 8, 10)]), 0), Judged { number: 8, place: 2, ..Judged::default() });
+    c.refused("P12 overlapping", &write(&one_bay(&[(0, 4, 10), (3, 8, 10)]), 0), refusal(8, 2));
 }
 
 pub fn run_line(c: &mut Checks) {
-    let refusal = |number, place| Judged { number, place, ..Judged::default() };
     c.refused("grams 0", &write(&order(1, TOP, &[(0, 4, 0)]), 0), refusal(5, 1));
     c.refused("grams 1,000,001", &write(&order(1, TOP, &[(0, 4, 1_000_001)]), 0), refusal(5, 1));
     c.refused("25 doses", &write(&order(1, TOP, &[(0, 4, 1); 25]), 3), refusal(7, 0));

@@ -1,6 +1,6 @@
 //! One case: a peer's four entry points held against the second program's own.
 
-use crate::answers::{accept, not_drawn, planned, refused, House, PLAN_BUFFER};
+use crate::answers::{accept, not_drawn, planned, refusal, refused, House, PLAN_BUFFER};
 use crate::demand3::sentences;
 use crate::layout::{plan_bytes, wrap, Slot};
 use crate::library::{Drawn, Judged, Peer, Planned};
@@ -83,7 +83,7 @@ impl Case<'_> {
     fn judge(&mut self, house: &House, plan: &[u8]) -> Result<Option<Vec<Slot>>, Difference> {
         let own = house.stands(plan);
         self.tally.judged(&own);
-        let wanted = Judged { number: if own.is_ok() { 0 } else { 10 }, ..Judged::default() };
+        let wanted = refusal(if own.is_ok() { 0 } else { 10 }, 0);
         let lent = guard::lend(&self.order, plan, self.r, |order, plan| self.peer.judge(order, plan));
         let answer = self.got(lent, plan)?;
         if answer != wanted {

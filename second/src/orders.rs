@@ -25,7 +25,7 @@ pub struct Order {
 #[derive(Clone, Copy, Debug, PartialEq, Eq)]
 pub struct Refusal {
     pub number: u32,
-    pub place: u32,
+    pub place: usize,
 }
 
 /// A number of 1, 2 or 4 bytes, least significant first.
@@ -47,7 +47,7 @@ fn between(low: u32, x: u32, high: u32) -> bool {
 
 /// Reads an order: 2, then record by record 3, 4, 5, then 6, 7, 8.
 pub fn read(bytes: &[u8]) -> Result<Order, Refusal> {
-    let refuse = |number, place: usize| Err(Refusal { number, place: place as u32 });
+    let refuse = |number, place| Err(Refusal { number, place });
     if !bytes.len().is_multiple_of(RECORD) || bytes.len() > LONGEST_ORDER {
         return refuse(2, 0);
     }

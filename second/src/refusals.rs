@@ -1,14 +1,10 @@
 //! Refusals 1 to 9 asked of a peer: each alone, every field at its edges, and several faults at once.
 
-use crate::answers::PLAN_BUFFER;
+use crate::answers::{refusal, PLAN_BUFFER};
 use crate::cases::{one_bay, order, p1, p2, p9, TOP};
 use crate::checks::Checks;
 use crate::library::{Judged, Planned};
 use crate::orders::{dose_record, fan_record, put, write, Dose, MILLION, RECORD, WEEK};
-
-fn refusal(number: u32, place: usize) -> Judged {
-    Judged { number, place: place as u32, ..Judged::default() }
-}
 
 const TOO_SHORT: Planned = Planned { number: 1, place: 0, set: 0, weight: 0, time: 0, classes: 0, slots: 0 };
 

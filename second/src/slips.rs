@@ -1,6 +1,6 @@
 //! Test builds only: errors that look right, each built into a copy of the planner, the judge or the line.
 
-use crate::answers::{drawn, not_drawn, planned, refused, House, OWN, PLAN_BUFFER};
+use crate::answers::{drawn, not_drawn, planned, refusal, refused, House, OWN, PLAN_BUFFER};
 use crate::classes::{by_flow, open_time, too_fast, weight_of, Class, FEW};
 use crate::compare::{Difference, USUAL};
 use crate::flow::Network;
@@ -110,7 +110,7 @@ impl Slipped {
     }
 
     fn accept(&self, bytes: &[u8]) -> Result<House, Judged> {
-        let order = read(bytes).map_err(|r| Judged { number: r.number, place: r.place, ..Judged::default() })?;
+        let order = read(bytes).map_err(|r| refusal(r.number, r.place))?;
         let spans = Intervals::of(&order);
         let classes = self.classes(&order, &spans);
         let over = |c: &Class| match self.0 {
@@ -246,7 +246,7 @@ impl Peer for Slipped {
         match self.accept(order) {
             Err(j) => j,
             Ok(house) if self.stands(&house, plan).is_ok() => Judged::default(),
-            Ok(_) => Judged { number: 10, ..Judged::default() },
+            Ok(_) => refusal(10, 0),
         }
     }
 

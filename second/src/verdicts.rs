@@ -1,7 +1,7 @@
 //! Judging asked of a peer: each clause of "A plan stands" broken alone, beside a plan that is right in that respect and stands; other
 //! plans that stand than the planner's; and plans longer than any planner writes.
 
-use crate::answers::{accept, refused, House, PLAN_BUFFER};
+use crate::answers::{accept, refusal, refused, House, PLAN_BUFFER};
 use crate::cases::{order, p1, p2, p3, p5, p6, TOP};
 use crate::checks::Checks;
 use crate::clauses;
@@ -55,7 +55,7 @@ impl Bench {
 
     /// A plan that breaks this clause and no other: judged and drawn 10, and the pen stays.
     fn wrong(&self, c: &mut Checks, name: &str, clause: Broken, plan: &[u8]) {
-        c.judge(name, &self.bytes, plan, Judged { number: 10, ..Judged::default() });
+        c.judge(name, &self.bytes, plan, refusal(10, 0));
         c.not_drawn(name, &self.bytes, plan, 0, 1, refused(10));
         c.same(name, self.house.stands(plan).err(), Some(clause));
         c.same(name, clauses::broken(&self.house, plan), vec![clause]);
