@@ -1,10 +1,11 @@
-//! The second program's own four entry points, and its own plan for an order.
+//! The second program's own five entry points, and its own plan for an order.
 
 use crate::classes::{self, Class};
 use crate::intervals::Intervals;
 use crate::layout::{plan_bytes, wrap, Slot};
-use crate::library::{Drawn, Judged, Peer, Planned, DOSING, FINISHED, IDLE, SHUT};
+use crate::library::{Drawn, Judged, Laid, Peer, Planned, DOSING, FINISHED, IDLE, SHUT};
 use crate::line::{point, Point, State};
+use crate::log;
 use crate::orders::{read, Order, RECORD, WEEK};
 use crate::random::Random;
 use crate::shares::{shares, Shares};
@@ -90,6 +91,15 @@ impl House {
         *tick += 1;
         drawn(self.point(slots, dose, *tick))
     }
+
+    /// What laying a log answers once the plan stands.
+    pub fn lay(&self, slots: &[Slot], dose: usize, bytes: &[u8]) -> Laid {
+        let Some(d) = self.order.doses.get(dose) else { return not_laid(refusal(11, 0)) };
+        match log::read(bytes, d.bay) {
+            Err((r, _)) => not_laid(refusal(r.number, r.place)),
+            Ok(log) => log::lay(&log, |tick| self.point(slots, dose, tick).amount),
+        }
+    }
 }
 
 pub fn refusal(number: u32, place: usize) -> Judged {
@@ -102,6 +112,10 @@ pub fn planned(j: Judged) -> Planned {
 
 pub fn not_drawn(j: Judged) -> Drawn {
     Drawn { number: j.number, place: j.place, set: j.set, weight: j.weight, time: j.time, state: SHUT, ..Drawn::default() }
+}
+
+pub fn not_laid(j: Judged) -> Laid {
+    Laid { number: j.number, place: j.place, set: j.set, weight: j.weight, time: j.time, ..Laid::default() }
 }
 
 pub fn refused(number: u32) -> Drawn {
@@ -118,7 +132,7 @@ pub fn drawn(p: Point) -> Drawn {
     Drawn { amount: p.amount, state, fan, ..Drawn::default() }
 }
 
-/// The second program itself, behind the same four entry points.
+/// The second program itself, behind the same five entry points.
 pub struct Own(Finder);
 
 /// Classes over all subsets where there are few doses; classes by flows always.
@@ -165,5 +179,9 @@ impl Peer for Own {
 
     fn advance(&self, order: &[u8], plan: &[u8], dose: usize, tick: &mut u32) -> Drawn {
         self.ask(order, plan, not_drawn, |house, slots| house.step(slots, dose, tick))
+    }
+
+    fn log(&self, order: &[u8], plan: &[u8], dose: usize, log: &[u8]) -> Laid {
+        self.ask(order, plan, not_laid, |house, slots| house.lay(slots, dose, log))
     }
 }

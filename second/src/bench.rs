@@ -1,7 +1,7 @@
 //! Measuring: times of the four entry points, chains and stacks.
 
 use crate::answers::{accept, PLAN_BUFFER};
-use crate::library::{stack_use, Drawn, Judged, Peer, Planned};
+use crate::library::{stack_use, Drawn, Judged, Laid, Peer, Planned};
 use crate::orders::{read, write, Order, RECORD};
 use crate::random::Random;
 use crate::styles;
@@ -128,6 +128,11 @@ impl Peer for Nobody {
     fn advance(&self, order: &[u8], plan: &[u8], dose: usize, tick: &mut u32) -> Drawn {
         black_box((order, plan, dose, tick));
         Drawn::default()
+    }
+
+    fn log(&self, order: &[u8], plan: &[u8], dose: usize, log: &[u8]) -> Laid {
+        black_box((order, plan, dose, log));
+        Laid::default()
     }
 }
 

@@ -1,11 +1,12 @@
 //! Named checks asked of a peer. Every call lends its bytes between canaries, and a byte that changes fails the check.
 
-use crate::answers::{not_drawn, planned, PLAN_BUFFER};
+use crate::answers::{not_drawn, not_laid, planned, PLAN_BUFFER};
 use crate::guard;
-use crate::library::{Drawn, Judged, Peer, Planned};
+use crate::library::{Drawn, Judged, Laid, Peer, Planned};
+use crate::meter::RAGGED;
 use crate::orders::RECORD;
 use crate::random::Random;
-use crate::{cases, drawing, refusals, verdicts};
+use crate::{cases, drawing, laying, refusals, verdicts};
 use std::fmt::Debug;
 
 pub struct Checks<'a> {
@@ -77,13 +78,21 @@ impl Checks<'_> {
         self.step(name, order, plan, dose, tick, (wanted, tick));
     }
 
-    /// An order that all four entry points refuse alike, whatever the plan bytes, dose and tick.
+    pub fn log(&mut self, name: &str, order: &[u8], plan: &[u8], dose: usize, log: &[u8], wanted: Laid) {
+        let lent = guard::log(self.peer, order, plan, dose, log, &mut self.r);
+        let answer = self.got(name, lent).unwrap_or_default();
+        self.same(name, answer, wanted);
+    }
+
+    /// An order that all five entry points refuse alike, whatever the plan bytes, dose, tick and log.
     pub fn refused(&mut self, name: &str, order: &[u8], wanted: Judged) {
         self.plan(name, order, PLAN_BUFFER, planned(wanted));
         for plan in [&[][..], &[b'S'; 33]] {
             self.judge(name, order, plan, wanted);
             self.not_drawn(name, order, plan, 0, 3, not_drawn(wanted));
             self.not_drawn(name, order, plan, usize::MAX, u32::MAX, not_drawn(wanted));
+            self.log(name, order, plan, 0, &[], not_laid(wanted));
+            self.log(name, order, plan, usize::MAX, &RAGGED, not_laid(wanted));
         }
     }
 }
@@ -91,7 +100,7 @@ impl Checks<'_> {
 /// A name, and the checks behind it.
 type Group = (&'static str, fn(&mut Checks));
 
-const GROUPS: [Group; 11] = [
+const GROUPS: [Group; 14] = [
     ("planning: P1 to P12", cases::proved),
     ("planning: the run line", cases::run_line),
     ("refusals: 1 to 9, each alone", refusals::alone),
@@ -103,6 +112,9 @@ const GROUPS: [Group; 11] = [
     ("drawing: the four states", cases::states),
     ("drawing: 10, 11 and 12 at their edges", drawing::edges),
     ("drawing: the pen", drawing::pen),
+    ("laying: the figures of C-11", laying::figures),
+    ("laying: 13 and 14, each alone", laying::refusals),
+    ("laying: several faults at once", laying::several),
 ];
 
 /// Runs every group; true if no check failed.

@@ -1,19 +1,20 @@
-//! One case: a peer's four entry points held against the second program's own.
+//! One case: a peer's five entry points held against the second program's own.
 
-use crate::answers::{accept, not_drawn, planned, refusal, refused, House, PLAN_BUFFER};
+use crate::answers::{accept, not_drawn, not_laid, planned, refusal, refused, House, PLAN_BUFFER};
 use crate::demand3::sentences;
 use crate::layout::{plan_bytes, wrap, Slot};
-use crate::library::{Drawn, Judged, Peer, Planned};
+use crate::library::{Drawn, Judged, Laid, Peer, Planned};
 use crate::orders::{RECORD, WEEK};
 use crate::random::Random;
 use crate::tally::Tally;
-use crate::{alone, cases, guard, near, variants};
+use crate::{alone, cases, guard, log, meter, near, stretches, variants};
 
 /// A case in which the two differ, with the bytes that show it.
 pub struct Difference {
     pub what: String,
     pub order: Vec<u8>,
     pub plan: Vec<u8>,
+    pub log: Vec<u8>,
 }
 
 /// How much of everything a case does.
@@ -26,10 +27,14 @@ pub struct Measure {
     pub records: usize,
     pub points: usize,
     pub moments: u32,
+    pub logs: usize,
 }
 
-pub const USUAL: Measure = Measure { every: true, bytes: 64, records: 20, points: 24, moments: 40 };
-pub const LITTLE: Measure = Measure { every: false, bytes: 6, records: 4, points: 4, moments: 2 };
+pub const USUAL: Measure = Measure { every: true, bytes: 64, records: 20, points: 24, moments: 40, logs: 16 };
+pub const LITTLE: Measure = Measure { every: false, bytes: 6, records: 4, points: 4, moments: 2, logs: 2 };
+
+/// Once in so many accepted orders a log of about 4,096 records is laid.
+const LONG: u64 = 8;
 
 struct Case<'a> {
     peer: &'a dyn Peer,
@@ -41,7 +46,11 @@ struct Case<'a> {
 
 impl Case<'_> {
     fn differ<T>(&self, what: String, plan: &[u8]) -> Result<T, Difference> {
-        Err(Difference { what, order: self.order.clone(), plan: plan.to_vec() })
+        self.differ_with(what, plan, &[])
+    }
+
+    fn differ_with<T>(&self, what: String, plan: &[u8], log: &[u8]) -> Result<T, Difference> {
+        Err(Difference { what, order: self.order.clone(), plan: plan.to_vec(), log: log.to_vec() })
     }
 
     /// What came back of a lent call, or the byte that changed as a difference.
@@ -142,7 +151,64 @@ impl Case<'_> {
         Ok(())
     }
 
-    /// A plan that must stand: judged, drawn, and demand 3 held against it.
+    fn log(&mut self, plan: &[u8], wanted: Laid, dose: usize, log: &[u8]) -> Result<(), Difference> {
+        let lent = guard::log(self.peer, &self.order, plan, dose, log, self.r);
+        let answer = lent.or_else(|what| self.differ_with(what, plan, log))?;
+        self.tally.laid(answer.number);
+        if answer != wanted {
+            return self.differ_with(format!("dose {dose}, a log of {} bytes: {answer:?} and not {wanted:?}", log.len()), plan, log);
+        }
+        Ok(())
+    }
+
+    /// A log of any dose beside a plan that stands; C-11's sentences are held against it, now and then cut in two.
+    fn lay(&mut self, house: &House, slots: &[Slot], plan: &[u8], dose: usize, bytes: &[u8]) -> Result<(), Difference> {
+        let laid = house.lay(slots, dose, bytes);
+        self.log(plan, laid, dose, bytes)?;
+        let Some(d) = house.order.doses.get(dose) else { return Ok(()) };
+        let own = log::read(bytes, d.bay);
+        self.tally.log(&own);
+        let Ok(records) = own else { return Ok(()) };
+        let mut kept = stretches::sentences(house, slots, dose, &records, &laid);
+        if !records.is_empty() && self.r.once_in(4) {
+            let cut = self.r.below(records.len() as u64) as usize * RECORD;
+            let pieces = [&bytes[..cut + RECORD], &bytes[cut..]];
+            let figures = pieces.map(|piece| house.lay(slots, dose, piece));
+            for (piece, laid) in pieces.into_iter().zip(figures) {
+                self.log(plan, laid, dose, piece)?;
+            }
+            kept = kept.and_then(|()| stretches::adds_up(&laid, figures));
+        }
+        kept.or_else(|what| self.differ_with(format!("C-11: {what}"), plan, bytes))
+    }
+
+    /// Logs beside a plan that stands, also of doses that don't exist.
+    fn logs(&mut self, house: &House, slots: &[Slot], plan: &[u8]) -> Result<(), Difference> {
+        let n = house.order.doses.len();
+        for _ in 0..self.measure.logs {
+            if n == 0 || self.r.once_in(16) {
+                let (dose, len) = (self.r.pick(&[n, n + 1, usize::MAX]), self.r.pick(&[0, 1, RECORD, log::LONGEST_LOG + RECORD]));
+                self.lay(house, slots, plan, dose, &vec![b'M'; len])?;
+            } else {
+                let dose = self.r.below(n as u64) as usize;
+                let bytes = meter::any(house, slots, dose, self.r);
+                self.lay(house, slots, plan, dose, &bytes)?;
+            }
+        }
+        Ok(())
+    }
+
+    /// A log of about as many records as there may be, whole or spoilt in one place.
+    fn long_log(&mut self, house: &House, slots: &[Slot], plan: &[u8]) -> Result<(), Difference> {
+        let dose = self.r.below(house.order.doses.len() as u64) as usize;
+        let mut bytes = meter::long(self.r.range(4_095, 4_097), house.order.doses[dose].bay, self.r);
+        if self.r.once_in(2) {
+            meter::spoil(&mut bytes, self.r);
+        }
+        self.lay(house, slots, plan, dose, &bytes)
+    }
+
+    /// A plan that must stand: judged, drawn, demand 3 held against it, and logs laid beside it.
     fn standing(&mut self, house: &House, plan: &[u8]) -> Result<(), Difference> {
         let Some(slots) = self.judge(house, plan)? else {
             return self.differ("a plan that should stand does not".into(), plan);
@@ -150,7 +216,8 @@ impl Case<'_> {
         if let Err(what) = sentences(house, &slots, self.measure.moments, self.r) {
             return self.differ(format!("demand 3: {what}"), plan);
         }
-        self.draw(house, &slots, plan)
+        self.draw(house, &slots, plan)?;
+        self.logs(house, &slots, plan)
     }
 
     fn damaged(&mut self, house: &House, plan: &[u8]) -> Result<(), Difference> {
@@ -176,6 +243,9 @@ impl Case<'_> {
                 None => {
                     self.point(&bytes, refused(10), dose, tick)?;
                     self.step(&bytes, refused(10), dose, tick, tick)?;
+                    if self.r.once_in(4) {
+                        self.log(&bytes, not_laid(refusal(10, 0)), dose, &meter::RAGGED)?;
+                    }
                 }
             }
         }
@@ -193,7 +263,8 @@ impl Case<'_> {
         }
         let (dose, tick) = (self.r.below(26) as usize, self.r.pick(&[0, 5, WEEK, WEEK + 1]));
         self.point(&plan, not_drawn(refusal), dose, tick)?;
-        self.step(&plan, not_drawn(refusal), dose, tick, tick)
+        self.step(&plan, not_drawn(refusal), dose, tick, tick)?;
+        self.log(&plan, not_laid(refusal), dose, &meter::RAGGED)
     }
 
     /// Planning alone, and judging where the order is refused.
@@ -201,6 +272,17 @@ impl Case<'_> {
         let own = accept(&self.order);
         self.plan(&own, PLAN_BUFFER)?;
         own.err().map_or(Ok(()), |refusal| self.refused(refusal))
+    }
+
+    /// Logs of dose 0 at short lengths and around the greatest.
+    fn log_lengths(&mut self) -> Result<(), Difference> {
+        let house = accept(&self.order).expect("the first case is P1");
+        let (slots, plan) = (house.slots(None), house.plan(None));
+        let log = meter::long(4_097, house.order.doses[0].bay, self.r);
+        for len in (0..=100).chain(log::LONGEST_LOG - 33..=log.len()) {
+            self.lay(&house, &slots, &plan, 0, &log[..len])?;
+        }
+        Ok(())
     }
 
     fn run(&mut self) -> Result<(), Difference> {
@@ -222,6 +304,9 @@ impl Case<'_> {
         }
         let any = self.r.below(plans.len() as u64) as usize;
         let slots = house.stands(&plans[any]).unwrap_or_default();
+        if !slots.is_empty() && self.r.once_in(LONG) {
+            self.long_log(&house, &slots, &plans[any])?;
+        }
         for (clause, bytes) in alone::each(&house, &plans[any], &slots, self.r) {
             if self.judge(&house, &bytes)?.is_some() {
                 return self.differ(format!("{clause} broken on purpose, and the plan stands"), &bytes);
@@ -247,15 +332,18 @@ pub fn order_of(number: u64, r: &mut Random) -> Vec<u8> {
     cases::fixed().into_iter().nth(number as usize).unwrap_or_else(|| near::bytes(r))
 }
 
-/// Runs one case of a seed. The first also takes every length of order from 0 to 1,700.
+/// Runs one case of a seed. The first also takes lengths of logs, and every length of order from 0 to 1,700.
 pub fn case(peer: &dyn Peer, seed: u64, number: u64, measure: Measure, tally: &mut Tally) -> Result<(), Difference> {
     let mut r = Random::of_case(seed, number);
     let order = order_of(number, &mut r);
-    Case { peer, order, measure, r: &mut r, tally }.run()?;
+    let mut case = Case { peer, order, measure, r: &mut r, tally };
+    case.run()?;
     if number == 0 {
-        let long = near::long(&mut r);
+        case.log_lengths()?;
+        let long = near::long(case.r);
         for len in 0..=1_700 {
-            Case { peer, order: long[..len].to_vec(), measure, r: &mut r, tally }.brief()?;
+            case.order = long[..len].to_vec();
+            case.brief()?;
         }
     }
     Ok(())

@@ -23,7 +23,7 @@ fn exact(slots: &[Slot], dose: usize, k: u64, q: u64) -> u128 {
 }
 
 /// A tick in or near a dose's window, often at an edge of a slot.
-fn some_tick(house: &House, slots: &[Slot], dose: usize, r: &mut Random) -> u32 {
+pub fn some_tick(house: &House, slots: &[Slot], dose: usize, r: &mut Random) -> u32 {
     let d = &house.order.doses[dose];
     let tick = match r.below(8) {
         0 => r.range(0, WEEK),

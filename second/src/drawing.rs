@@ -7,7 +7,7 @@ use crate::layout::Slot;
 use crate::orders::{write, Order, WEEK};
 
 /// An example with the second program's plan for it; the shares of the examples are not open.
-fn example(o: &Order) -> (Vec<u8>, House, Vec<Slot>, Vec<u8>) {
+pub fn example(o: &Order) -> (Vec<u8>, House, Vec<Slot>, Vec<u8>) {
     let bytes = write(o, 1);
     let house = accept(&bytes).expect("an accepted order");
     let (slots, plan) = (house.slots(None), house.plan(None));

@@ -1,6 +1,6 @@
 //! Lent buffers with canaries on both sides, and a peer's entry points asked with such buffers.
 
-use crate::library::{Drawn, Peer, Planned};
+use crate::library::{Drawn, Laid, Peer, Planned};
 use crate::orders::RECORD;
 use crate::random::Random;
 
@@ -82,4 +82,14 @@ pub fn step(peer: &dyn Peer, order: &[u8], plan: &[u8], dose: usize, tick: u32, 
         return Err("numbers beside a pen changed".into());
     }
     Ok((answer, ticks[1]))
+}
+
+/// Lends a log beside order and plan.
+pub fn log(peer: &dyn Peer, order: &[u8], plan: &[u8], dose: usize, log: &[u8], r: &mut Random) -> Result<Laid, String> {
+    let log = Lent::new(log, r);
+    let answer = lend(order, plan, r, |order, plan| peer.log(order, plan, dose, log.bytes()))?;
+    if !log.untouched() {
+        return Err("bytes of a lent log changed".into());
+    }
+    Ok(answer)
 }

@@ -37,18 +37,33 @@ pub struct Drawn {
     pub fan: u32,
 }
 
-/// The four entry points, whoever answers them.
+/// A log laid beside a plan: what was metered in its known stretches and what the line rose by in them, in 1/1024 gram, and the seconds of
+/// the unknown ones.
+#[derive(Clone, Copy, Debug, Default, PartialEq, Eq)]
+pub struct Laid {
+    pub number: u32,
+    pub place: u32,
+    pub set: u32,
+    pub weight: u32,
+    pub time: u32,
+    pub metered: u64,
+    pub risen: u64,
+    pub unknown: u32,
+}
+
+/// The five entry points, whoever answers them.
 pub trait Peer: Sync {
     fn name(&self) -> &'static str;
     fn plan(&self, order: &[u8], plan: &mut [u8]) -> Planned;
     fn judge(&self, order: &[u8], plan: &[u8]) -> Judged;
     fn point(&self, order: &[u8], plan: &[u8], dose: usize, tick: u32) -> Drawn;
     fn advance(&self, order: &[u8], plan: &[u8], dose: usize, tick: &mut u32) -> Drawn;
+    fn log(&self, order: &[u8], plan: &[u8], dose: usize, log: &[u8]) -> Laid;
 }
 
 #[cfg(feature = "library")]
 mod linked {
-    use super::{Drawn, Judged, Peer, Planned};
+    use super::{Drawn, Judged, Laid, Peer, Planned};
 
     /// The answers as they cross the boundary: the library counts and places in wider numbers.
     #[repr(C)]
@@ -83,6 +98,18 @@ mod linked {
         fan: u32,
     }
 
+    #[repr(C)]
+    struct WideLaid {
+        number: u32,
+        place: usize,
+        set: u64,
+        weight: u64,
+        time: u64,
+        metered: u64,
+        risen: u64,
+        unknown: u32,
+    }
+
     #[link(name = "knellgable", kind = "static")]
     extern "C" {
         fn knellgable_plan(order: *const u8, order_len: usize, plan: *mut u8, plan_len: usize) -> WidePlanned;
@@ -96,6 +123,15 @@ mod linked {
             dose: usize,
             tick: *mut u32,
         ) -> WideDrawn;
+        fn knellgable_log(
+            order: *const u8,
+            order_len: usize,
+            plan: *const u8,
+            plan_len: usize,
+            dose: usize,
+            log: *const u8,
+            log_len: usize,
+        ) -> WideLaid;
     }
 
     /// No right answer is wider than 32 bits; a wider one stops the case it came in.
@@ -135,6 +171,12 @@ mod linked {
 
         fn advance(&self, order: &[u8], plan: &[u8], dose: usize, tick: &mut u32) -> Drawn {
             unsafe { knellgable_advance(order.as_ptr(), order.len(), plan.as_ptr(), plan.len(), dose, tick) }.into()
+        }
+
+        fn log(&self, order: &[u8], plan: &[u8], dose: usize, log: &[u8]) -> Laid {
+            let w = unsafe { knellgable_log(order.as_ptr(), order.len(), plan.as_ptr(), plan.len(), dose, log.as_ptr(), log.len()) };
+            let (place, set, weight, time) = (narrow(w.place), narrow(w.set), narrow(w.weight), narrow(w.time));
+            Laid { number: w.number, place, set, weight, time, metered: w.metered, risen: w.risen, unknown: w.unknown }
         }
     }
 }

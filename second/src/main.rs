@@ -16,11 +16,16 @@ mod flow;
 mod glpk;
 mod guard;
 mod intervals;
+mod laying;
 mod layout;
 #[allow(unsafe_code)]
 mod library;
 mod line;
+mod log;
+#[cfg(feature = "errors")]
+mod log_slips;
 mod machine;
+mod meter;
 mod near;
 mod orders;
 mod page;
@@ -34,6 +39,7 @@ mod shares;
 #[cfg(feature = "errors")]
 mod slips;
 mod stands;
+mod stretches;
 mod styles;
 mod tally;
 mod variants;
@@ -45,7 +51,7 @@ const USE: &str = "use: second self [cases] [seed]
      second cases
      second compare [cases] [seed] [threads] [first case] [little]
      second errors [cases] [seed]           (built with --features errors)
-     second case FILE [PLAN FILE]
+     second case FILE [PLAN FILE [DOSE LOG FILE]]
      second plan FILE
      second classes FILE
      second bench [orders] [FILE]
@@ -92,7 +98,8 @@ fn main() -> ExitCode {
         Some("errors") => slips::run(number(&args, 1, 1_000), number(&args, 2, 1)),
         Some("case") => {
             let plan = if args.len() > 2 { Some(file(&args, 2)) } else { None };
-            printer::case(&file(&args, 1), plan.as_deref());
+            let log = if args.len() > 3 { Some((number(&args, 3, 0) as usize, file(&args, 4))) } else { None };
+            printer::case(&file(&args, 1), plan.as_deref(), log.as_ref().map(|(dose, bytes)| (*dose, &bytes[..])));
             true
         }
         Some("plan") => {

@@ -4,6 +4,7 @@ use crate::answers::{accept, House};
 use crate::layout::Slot;
 use crate::library::Judged;
 use crate::line::State;
+use crate::log::{self, PER_GRAM};
 use std::fmt::Write;
 
 /// At most 1,601 bytes are read.
@@ -45,8 +46,21 @@ pub fn classes(order: &[u8]) -> String {
     }
 }
 
-/// Doses, classes and the plan's verdict, in words.
-pub fn case(order: &[u8], plan: Option<&[u8]>) {
+/// What a log comes to beside a dose's line, or why it is refused.
+fn log_of(house: &House, slots: &[Slot], dose: usize, bytes: &[u8]) -> String {
+    let Some(d) = house.order.doses.get(dose) else { return "no such dose".into() };
+    match log::read(bytes, d.bay) {
+        Err((r, fault)) => format!("refused {} {}: {fault}", r.number, r.place),
+        Ok(log) => {
+            let laid = house.lay(slots, dose, bytes);
+            let (metered, risen) = (laid.metered, laid.risen);
+            format!("{} records, metered {metered} and risen {risen} of 1/{PER_GRAM} gram, {} seconds unknown", log.len(), laid.unknown)
+        }
+    }
+}
+
+/// Doses, classes, the plan's verdict and a dose's log, in words.
+pub fn case(order: &[u8], plan: Option<&[u8]>, log: Option<(usize, &[u8])>) {
     println!("{} bytes of order", order.len());
     let house = match accept(order) {
         Err(j) => {
@@ -78,6 +92,9 @@ pub fn case(order: &[u8], plan: Option<&[u8]>) {
                     other => format!("{other:?}"),
                 };
                 println!("dose {k} at {middle}: {} grams, {state}", p.amount);
+            }
+            if let Some((dose, bytes)) = log {
+                println!("the log of dose {dose}: {}", log_of(&house, &slots, dose, bytes));
             }
         }
     }

@@ -7,6 +7,7 @@ use crate::compare::LITTLE;
 use crate::demand3::sentences;
 use crate::intervals::Intervals;
 use crate::layout::{plan_bytes, Slot};
+use crate::log::{flow, flow_bits, TOP_FLOW};
 use crate::orders::{write, Order, RECORD};
 use crate::random::Random;
 use crate::runs;
@@ -41,6 +42,15 @@ fn classes(cases: u64, seed: u64) -> bool {
     }
     took(&format!("subset classes equal flow classes on {cases} orders, by doses {counts:?}"), began);
     true
+}
+
+/// Every flow is read from the bits of its float, and between the smallest and the greatest no other bits are a flow.
+fn flows() -> bool {
+    let began = Instant::now();
+    let read = |known: u32| flow((known as f32 / 1_024.0).to_bits()) == Ok(known);
+    let count = (flow_bits(1)..=flow_bits(TOP_FLOW)).filter(|&bits| flow(bits).is_ok()).count();
+    took(&format!("{count} flows from 1/1024 to 1,000 by their bits"), began);
+    (0..=TOP_FLOW).all(read) && count == TOP_FLOW as usize
 }
 
 /// A plan in several shapes: each must stand and keep demand 3.
@@ -175,6 +185,7 @@ fn damage(cases: u64, seed: u64) -> bool {
 pub fn run(cases: u64, seed: u64) -> bool {
     println!("seed {seed}, cases {cases}");
     let mut good = checks::run(&OWN);
+    good = flows() && good;
     good = classes(2 * cases, seed) && good;
     good = plans(cases, seed) && good;
     good = damage(cases / 4, seed) && good;

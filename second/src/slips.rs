@@ -1,12 +1,12 @@
-//! Test builds only: errors that look right, each built into a copy of the planner, the judge or the line.
+//! Test builds only: errors that look right, each built into a copy of the planner, the judge, the line or the log.
 
-use crate::answers::{drawn, not_drawn, planned, refusal, refused, House, OWN, PLAN_BUFFER};
+use crate::answers::{drawn, not_drawn, not_laid, planned, refusal, refused, House, OWN, PLAN_BUFFER};
 use crate::classes::{by_flow, open_time, too_fast, weight_of, Class, FEW};
 use crate::compare::{Difference, USUAL};
 use crate::flow::Network;
 use crate::intervals::Intervals;
 use crate::layout::{plan_bytes, wrap, Slot};
-use crate::library::{Drawn, Judged, Peer, Planned};
+use crate::library::{Drawn, Judged, Laid, Peer, Planned};
 use crate::line::{class_of, Point, State};
 use crate::orders::{read, Order, RECORD, WEEK};
 use crate::runs::guarded;
@@ -34,11 +34,21 @@ pub enum Slip {
     Clears,
     Merged,
     OnlyOwnPlan,
+    NoTurn,
+    LaterFlow,
+    FlowIntoUnknown,
+    RisenThroughout,
+    FourteenFirst,
+    OneWalk,
+    NoNumberIsZero,
+    InfiniteIsTop,
+    NoMinusZero,
+    OneTooMany,
 }
 
 use Slip::*;
 
-pub const SLIPS: [(Slip, &str); 19] = [
+pub const SLIPS: [(Slip, &str); 29] = [
     (FansUsed, "Fig. 2, line 6 as printed: the smaller of active doses and fans already used"),
     (FansUsedLater, "the same, but the first class sees all fans"),
     (AnySet, "any set of greatest rate: the last one met"),
@@ -58,10 +68,20 @@ pub const SLIPS: [(Slip, &str); 19] = [
     (Clears, "the rest of the plan buffer cleared"),
     (Merged, "slots merged across intervals"),
     (OnlyOwnPlan, "judging: only the planner's own bytes stand"),
+    (NoTurn, "log: plain subtraction where the counter turns"),
+    (LaterFlow, "log: the later record's flow"),
+    (FlowIntoUnknown, "log: a flow held until a missing record or a counter, an unknown stretch counted"),
+    (RisenThroughout, "log: the line's rise over all stretches"),
+    (FourteenFirst, "log: 14 looked for before 13"),
+    (OneWalk, "log: 13 and 14 looked for in one walk"),
+    (NoNumberIsZero, "log: a flow that is no number read as zero"),
+    (InfiniteIsTop, "log: an infinite flow read as 1,000"),
+    (NoMinusZero, "log: minus zero refused"),
+    (OneTooMany, "log: 4,097 records laid"),
 ];
 
 /// A copy of the second program with one error in it.
-struct Slipped(Slip);
+pub struct Slipped(pub Slip);
 
 impl Slipped {
     /// Whether the first rate is above the second; the wrong ways of comparing.
@@ -173,7 +193,7 @@ impl Slipped {
         }
     }
 
-    fn point(&self, house: &House, slots: &[Slot], dose: usize, tick: u32) -> Point {
+    pub fn point(&self, house: &House, slots: &[Slot], dose: usize, tick: u32) -> Point {
         let mut p = house.point(slots, dose, tick);
         let d = house.order.doses[dose];
         let own = slots.iter().filter(|s| s.dose as usize == dose);
@@ -261,6 +281,13 @@ impl Peer for Slipped {
         }
         answer
     }
+
+    fn log(&self, order: &[u8], plan: &[u8], dose: usize, log: &[u8]) -> Laid {
+        match self.accept(order) {
+            Err(j) => not_laid(j),
+            Ok(house) => self.stands(&house, plan).map_or(not_laid(refusal(10, 0)), |slots| self.lay(&house, &slots, dose, log)),
+        }
+    }
 }
 
 /// The first case from `from` on that differs, if one does.
@@ -289,8 +316,9 @@ pub fn run(cases: u64, seed: u64) -> bool {
                 ("none".into(), "nothing".into())
             }
         };
-        let short = what.split(": Planned").next().and_then(|w| w.split(": Judged").next()).and_then(|w| w.split(": Drawn").next());
-        println!("| {words} | {n} | {random} | {} |", short.unwrap_or("").trim());
+        let short =
+            [": Planned", ": Judged", ": Drawn", ": Laid"].iter().fold(&what[..], |what, answer| what.split(answer).next().unwrap_or(""));
+        println!("| {words} | {n} | {random} | {} |", short.trim());
     }
     println!("\n{count} of {} errors found; 64-bit floats never differ", SLIPS.len());
     good

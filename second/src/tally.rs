@@ -3,6 +3,8 @@
 use crate::answers::House;
 use crate::layout::Slot;
 use crate::library::Judged;
+use crate::log::{metered, Fault, Read, Reading, FAULTS};
+use crate::orders::Refusal;
 use crate::stands::CLAUSES;
 
 #[derive(Clone, Default)]
@@ -15,7 +17,14 @@ pub struct Tally {
     clauses: [u64; CLAUSES.len()],
     doses: [u64; 25],
     most_slots: usize,
+    logs: [u64; 15],
+    faults: [u64; FAULTS.len()],
+    stretches: [u64; STRETCHES.len()],
+    most_records: usize,
 }
+
+/// Kinds of stretches in the logs that were laid.
+const STRETCHES: [&str; 4] = ["counter", "counter that turns", "flow", "unknown"];
 
 impl Tally {
     pub fn order(&mut self, own: &Result<House, Judged>) {
@@ -50,16 +59,38 @@ impl Tally {
         }
     }
 
+    pub fn laid(&mut self, number: u32) {
+        self.logs[number.min(14) as usize] += 1;
+    }
+
+    /// A log asked of a plan that stands and a dose that it has.
+    pub fn log(&mut self, own: &Result<Vec<Read>, (Refusal, Fault)>) {
+        match own {
+            Ok(log) => {
+                self.most_records = self.most_records.max(log.len());
+                log.windows(2).for_each(|ends| self.stretches[kind(ends[0], ends[1])] += 1);
+            }
+            Err((_, fault)) => {
+                let i = FAULTS.iter().position(|f| f == fault).expect("every fault is listed");
+                self.faults[i] += 1;
+            }
+        }
+    }
+
     pub fn add(&mut self, other: &Tally) {
         let sum = |a: &mut [u64], b: &[u64]| a.iter_mut().zip(b).for_each(|(x, y)| *x += y);
         self.cases += other.cases;
         self.standing += other.standing;
         self.most_slots = self.most_slots.max(other.most_slots);
+        self.most_records = self.most_records.max(other.most_records);
         sum(&mut self.orders, &other.orders);
         sum(&mut self.plannings, &other.plannings);
         sum(&mut self.drawings, &other.drawings);
         sum(&mut self.clauses, &other.clauses);
         sum(&mut self.doses, &other.doses);
+        sum(&mut self.logs, &other.logs);
+        sum(&mut self.faults, &other.faults);
+        sum(&mut self.stretches, &other.stretches);
     }
 
     pub fn print(&self) {
@@ -76,5 +107,21 @@ impl Tally {
         for (clause, n) in CLAUSES.iter().zip(self.clauses) {
             println!("plans judged broken   {n:>9}  {clause}");
         }
+        println!("logs by answer        {}, the longest laid of {} records", row(&self.logs), self.most_records);
+        for (kind, n) in STRETCHES.iter().zip(self.stretches) {
+            println!("stretches laid        {n:>9}  {kind}");
+        }
+        for (fault, n) in FAULTS.iter().zip(self.faults) {
+            println!("logs refused          {n:>9}  {fault}");
+        }
+    }
+}
+
+/// The kind of a stretch, by its place in the list.
+fn kind(earlier: Read, later: Read) -> usize {
+    match (earlier.1, later.1) {
+        (Reading::Counter(a), Reading::Counter(b)) => usize::from(b < a),
+        _ if metered(earlier, later).is_some() => 2,
+        _ => 3,
     }
 }
