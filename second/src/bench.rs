@@ -1,8 +1,9 @@
-//! Measuring: times of the four entry points, chains and stacks.
+//! Measuring: times of the five entry points, chains and stacks.
 
 use crate::answers::{accept, PLAN_BUFFER};
 use crate::library::{stack_use, Drawn, Judged, Laid, Peer, Planned};
-use crate::orders::{read, write, Order, RECORD};
+use crate::log::{flow_bits, meter_record, COUNTER, FLOW, LONGEST_LOG};
+use crate::orders::{read, write, Order, RECORD, WEEK};
 use crate::random::Random;
 use crate::styles;
 use std::hint::black_box;
@@ -13,8 +14,11 @@ const HARD: &[u8] = include_bytes!("../../samples/hard.order");
 /// Calls that are timed, after one to warm.
 pub const TIMED: usize = 15;
 
-/// What is timed: the four entry points, and judging a plan that lacks its last record.
+/// What is timed on orders of every size; the last is judging a plan that lacks its last record.
 pub const ENTRIES: [&str; 5] = ["plan", "judge", "point", "pen step", "judge, a plan that falls"];
+
+/// What is looked at for its stack.
+pub const STACKED: [&str; 5] = ["plan", "judge", "point", "pen step", "log"];
 
 /// Keeps an answer from being left out.
 fn spend<T>(answer: T) {
@@ -84,6 +88,33 @@ pub fn measure(peers: &[&dyn Peer], orders: &[Vec<u8>]) -> Vec<Times> {
     rows.iter().map(|row| over(row)).collect()
 }
 
+/// The longest log of a dose, over the whole week: counters in its first half, then flows, so that all stretches but one are known.
+fn full_log(order: &Order, dose: usize) -> Vec<u8> {
+    let count = (LONGEST_LOG / RECORD) as u32;
+    let bay = order.doses.get(dose).map_or(0, |d| d.bay);
+    let record = |i: u32| {
+        let (form, value) = if i < count / 2 { (COUNTER, 3 * i) } else { (FLOW, flow_bits(i)) };
+        meter_record(bay, i * (WEEK / count), form, value)
+    };
+    (0..count).flat_map(record).collect()
+}
+
+/// Microseconds of laying the longest log and of judging the same plan, for each peer order by order.
+pub fn logs(peers: &[&dyn Peer], orders: &[Vec<u8>]) -> Vec<Vec<[f64; 2]>> {
+    let mut rows = vec![Vec::new(); peers.len()];
+    for bytes in orders {
+        let order = read(bytes).expect("an order to measure");
+        let dose = order.doses.len() / 2;
+        let log = full_log(&order, dose);
+        for (peer, row) in peers.iter().zip(&mut rows) {
+            let plan = plan_of(*peer, bytes);
+            let laying = time(|| spend(peer.log(black_box(bytes), &plan, dose, &log)));
+            row.push([laying, time(|| spend(peer.judge(black_box(bytes), &plan)))]);
+        }
+    }
+    rows
+}
+
 /// Accepted orders of exactly `n` doses.
 pub fn random_orders(n: usize, style: usize, count: usize, r: &mut Random) -> Vec<Vec<u8>> {
     let all = std::iter::repeat_with(|| write(&styles::exactly(n, style, r), 0));
@@ -136,27 +167,29 @@ impl Peer for Nobody {
     }
 }
 
-/// Stack use of the four entry points with one plan.
-fn stacks_with(peer: &dyn Peer, order: &[u8], plan: &[u8]) -> [usize; 4] {
+/// Stack use of the five entry points with one plan and the longest log of dose 0.
+fn stacks_with(peer: &dyn Peer, order: &[u8], plan: &[u8], log: &[u8]) -> [usize; 5] {
     let mut buffer = vec![0; PLAN_BUFFER];
     [
         stack_use(|| spend(peer.plan(order, &mut buffer))),
         stack_use(|| spend(peer.judge(order, plan))),
         stack_use(|| spend(peer.point(order, plan, 0, 1))),
         stack_use(|| spend(peer.advance(order, plan, 0, &mut 1))),
+        stack_use(|| spend(peer.log(order, plan, 0, log))),
     ]
 }
 
-/// Deepest stack use of the four entry points over some orders, in bytes, with a plan that stands and with one that falls.
-pub fn stacks(peer: &dyn Peer, orders: &[Vec<u8>]) -> [usize; 4] {
-    let own = stacks_with(&Nobody, &[], &[]);
+/// Deepest stack use of the five entry points over some orders, in bytes, with a plan that stands and with one that falls.
+pub fn stacks(peer: &dyn Peer, orders: &[Vec<u8>]) -> [usize; 5] {
+    let own = stacks_with(&Nobody, &[], &[], &[]);
     let mut deepest = own;
     for order in orders {
         let plan = plan_of(peer, order);
+        let log = full_log(&read(order).expect("an order to measure"), 0);
         for plan in [&plan[..], &plan[..plan.len().saturating_sub(RECORD)]] {
-            let used = stacks_with(peer, order, plan);
+            let used = stacks_with(peer, order, plan, &log);
             deepest.iter_mut().zip(used).for_each(|(most, used)| *most = used.max(*most));
         }
     }
-    [0, 1, 2, 3].map(|i| deepest[i] - own[i])
+    [0, 1, 2, 3, 4].map(|i| deepest[i] - own[i])
 }

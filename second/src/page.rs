@@ -1,7 +1,7 @@
 //! The page of benchmarks, written whole by one command from the project's root.
 
 use crate::answers::OWN_FLOW;
-use crate::bench::{chains, hard_orders, measure, random_orders, stacks, Times, ENTRIES, TIMED};
+use crate::bench::{chains, hard_orders, logs, measure, median, random_orders, stacks, Times, ENTRIES, STACKED, TIMED};
 use crate::glpk;
 use crate::library::Peer;
 use crate::machine::{processor, today};
@@ -16,6 +16,8 @@ const SIZES: [usize; 4] = [1, 6, 12, 24];
 const GROWTH: [usize; 9] = [1, 3, 6, 9, 12, 15, 18, 21, 24];
 /// Orders of each size that `glpsol` is asked.
 const GLPK_ORDERS: usize = 10;
+/// Orders of each kind beside whose plans a log is laid.
+const LOG_ORDERS: usize = 10;
 /// Orders of each kind whose stacks are looked at.
 const STACK_ORDERS: usize = 300;
 const STACK: usize = 64 << 10;
@@ -88,13 +90,31 @@ fn searches(text: &mut String) {
     }
 }
 
+/// The times of the longest log, and of judging the same plan; the answer is the library's slowest order.
+fn log_table(text: &mut String, r: &mut Random) -> [f64; 2] {
+    head(text, &["orders", "asked"], &[]);
+    let slower = |a: [f64; 2], b: [f64; 2]| if b[0] > a[0] { b } else { a };
+    let mut most = [0.0; 2];
+    for (kind, orders) in kinds(24, LOG_ORDERS, r) {
+        let sides = logs(SIDES, &orders);
+        let slowest: Vec<[f64; 2]> = sides.iter().map(|times| times.iter().copied().fold([0.0; 2], slower)).collect();
+        for (i, entry) in ["log of 4,096 records", "judge"].iter().enumerate() {
+            let over = |times: &[[f64; 2]]| median(times.iter().map(|t| t[i]).collect());
+            let cells = sides.iter().zip(&slowest).map(|(times, slowest)| format!("{:.1} ({:.1})", over(times), slowest[i]));
+            writeln!(text, "| {kind} | {entry} | {} |", cells.collect::<Vec<_>>().join(" | ")).unwrap();
+        }
+        most = slower(most, slowest[0]);
+    }
+    most
+}
+
 /// The greatest stacks of each side; the answer is the library's. Spread orders lead to the longest chains.
-fn stack_table(text: &mut String, r: &mut Random) -> [usize; 4] {
+fn stack_table(text: &mut String, r: &mut Random) -> [usize; 5] {
     let mut orders: Vec<Vec<u8>> = kinds(24, STACK_ORDERS, r).into_iter().flat_map(|(_, orders)| orders).collect();
     let valid = std::iter::repeat_with(|| near::bytes(r)).filter(|bytes| read(bytes).is_ok());
     orders.extend(valid.take(STACK_ORDERS));
-    writeln!(text, "| side | {} |\n|---|---|---|---|---|", ENTRIES[..4].join(" | ")).unwrap();
-    let all: Vec<[usize; 4]> = SIDES.iter().map(|side| stacks(*side, &orders)).collect();
+    writeln!(text, "| side | {} |\n|---|---|---|---|---|---|", STACKED.join(" | ")).unwrap();
+    let all: Vec<[usize; 5]> = SIDES.iter().map(|side| stacks(*side, &orders)).collect();
     for (side, used) in SIDES.iter().zip(&all) {
         let cells: Vec<String> = used.iter().map(usize::to_string).collect();
         writeln!(text, "| {} | {} |", side.name(), cells.join(" | ")).unwrap();
@@ -103,7 +123,7 @@ fn stack_table(text: &mut String, r: &mut Random) -> [usize; 4] {
 }
 
 /// The aims, from the library's times at 24 doses and its stacks.
-fn figures(kinds: &[Vec<Times>], used: [usize; 4]) -> Vec<Figure> {
+fn figures(kinds: &[Vec<Times>], [log, judge]: [f64; 2], used: [usize; 5]) -> Vec<Figure> {
     let [library, second] = &kinds[0][..] else { return Vec::new() };
     let plan = library.entries[0];
     let (beside, part, fallen) = (plan / second.entries[0], library.entries[1] / plan, library.entries[4] / plan);
@@ -124,9 +144,19 @@ fn figures(kinds: &[Vec<Times>], used: [usize; 4]) -> Vec<Figure> {
             measured: format!("{:.1} beyond, {:.1} in all", library.beyond, library.entries[2]),
             reached: library.beyond <= 20.0,
         },
+        Figure {
+            aim: "a log of 4,096 records over a plan of 24 doses: at most 25 milliseconds",
+            measured: format!("{:.1}, of which judging {:.2}", log / 1_000.0, judge / 1_000.0),
+            reached: log <= 25_000.0,
+        },
     ];
-    let aims =
-        ["plan: under 64 KiB of stack", "judge: under 64 KiB of stack", "point: under 64 KiB of stack", "pen step: under 64 KiB of stack"];
+    let aims = [
+        "plan: under 64 KiB of stack",
+        "judge: under 64 KiB of stack",
+        "point: under 64 KiB of stack",
+        "pen step: under 64 KiB of stack",
+        "log: under 64 KiB of stack",
+    ];
     list.extend(aims.into_iter().zip(used).map(|(aim, used)| Figure { aim, measured: format!("{used} bytes"), reached: used < STACK }));
     list
 }
@@ -175,17 +205,23 @@ those above, so their medians differ by chance; the hard ones are the same order
 
 ";
 
+const LOGS: &str = "
+A log of one dose over the whole week, 2,048 counters and then 2,048 flows, so that all stretches but one are known; and judging the same plan, \
+which laying does once. LOGGED random and spread orders of 24 doses and the hard sample: the median, and in brackets the order whose log took longest.
+
+";
+
 const STACKS: &str = "
 The deepest use in bytes: the stack is painted, the call made, and the paint looked at, less what a call takes that answers at once. Over STACKED \
-random and spread orders of 24 doses, the hard sample, and as many orders of every style; judging and drawing with the planner's plan and \
-with one that lacks its last record, for which the classes are computed.
+random and spread orders of 24 doses, the hard sample, and as many orders of every style; judging, drawing and laying with the planner's plan \
+and with one that lacks its last record, for which the classes are computed. The log is the one above, of dose 0.
 
 ";
 
 const AIMS: &str = "
-The aims are the project's own, set before the first page was measured; document 01 names no figure. Reading the bytes is taken as judging them: \
-a point checks 2 to 10 first, by its definition. Where a plan falls, judging computes the classes, to tell 9 from 10. How each aim is read, and \
-what another reading would miss, stands in `docs/DECISIONS.md`.
+The aims are the project's own, set before the first page was measured, those of the log before it was built; documents 01 and 02 name no \
+figure. Reading the bytes is taken as judging them: a point checks 2 to 10 first, by its definition. Where a plan falls, judging computes the \
+classes, to tell 9 from 10. How each aim is read, and what another reading would miss, stands in `docs/DECISIONS.md`.
 
 ";
 
@@ -201,12 +237,15 @@ fn page(count: usize) -> String {
     text += "\nThe chains are those that the second program's flow pushes for the shares of an order, without the search for classes.\n";
     text += "\n## Searches for chains in the library\n\nCounted by `tests/chains`, for classes and shares; a search pushes one chain or finds none.\n\n";
     searches(&mut text);
+    text += "\n## Laying a log\n";
+    text += &LOGS.replace("LOGGED", &LOG_ORDERS.to_string());
+    let laid = log_table(&mut text, &mut r.clone());
     text += "\n## Stack\n";
     text += &STACKS.replace("STACKED", &STACK_ORDERS.to_string());
     let used = stack_table(&mut text, &mut r);
     text += "\n## Aims and measurements\n";
     text += AIMS;
-    aims(&mut text, &figures(&last, used));
+    aims(&mut text, &figures(&last, laid, used));
     watched(&mut text, &last);
     text += "\n## Random cases\n\nThe last lines of `second compare` and of `tests/sanitized`, kept in `second/long-run.txt`:\n\n";
     match std::fs::read_to_string(LONG_RUNS) {
