@@ -1,4 +1,4 @@
-/* A sample order planned, judged and drawn from C.
+/* A sample order planned, judged and drawn, and a log laid beside it, from C.
  *     cc -Iinclude examples/first.c target/staticlib/libknellgable.a -o first && ./first samples/p2.order */
 #include "knellgable.h"
 #include <stdio.h>
@@ -28,5 +28,15 @@ int main(int count, char **words)
         drawn = knellgable_advance(order, order_bytes, plan, plan_bytes, 0, &tick);
         printf("pen at %u: answer %u, %u grams, state %u\n", tick, drawn.number, drawn.amount, drawn.state);
     }
+
+    /* The log of bay 1: its counter at 4,294,967,290 and after 2 seconds at 4, then a missing reading. */
+    static const uint8_t log[3 * 32] = {
+        [0] = 0x4D, [1] = 1, [2] = 1, [8] = 0xFA, [9] = 0xFF, [10] = 0xFF, [11] = 0xFF,
+        [32] = 0x4D, [33] = 1, [34] = 1, [36] = 2, [40] = 4,
+        [64] = 0x4D, [66] = 1, [68] = 3,
+    };
+    knellgable_laid laid = knellgable_log(order, order_bytes, plan, plan_bytes, 0, log, sizeof log);
+    printf("log: answer %u, metered %llu/1024 grams, risen %llu/1024, unknown %u seconds\n", laid.number, (unsigned long long)laid.metered,
+        (unsigned long long)laid.risen, laid.unknown);
     return 0;
 }

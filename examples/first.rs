@@ -1,4 +1,4 @@
-//! A sample order planned, judged and drawn from Rust.
+//! A sample order planned, judged and drawn, and a log laid beside it, from Rust.
 //!     rustc -L target/staticlib examples/first.rs && ./first samples/p2.order
 
 #[repr(C)]
@@ -33,12 +33,33 @@ struct Drawn {
     fan: u32,
 }
 
+#[repr(C)]
+struct Laid {
+    number: u32,
+    place: usize,
+    set: u64,
+    weight: u64,
+    time: u64,
+    metered: u64,
+    risen: u64,
+    unknown: u32,
+}
+
 #[link(name = "knellgable", kind = "static")]
 extern "C" {
     fn knellgable_plan(order: *const u8, order_bytes: usize, plan: *mut u8, plan_bytes: usize) -> Planned;
     fn knellgable_judge(order: *const u8, order_bytes: usize, plan: *const u8, plan_bytes: usize) -> Judged;
     fn knellgable_point(order: *const u8, order_bytes: usize, plan: *const u8, plan_bytes: usize, dose: usize, tick: u32) -> Drawn;
     fn knellgable_advance(order: *const u8, order_bytes: usize, plan: *const u8, plan_bytes: usize, dose: usize, tick: *mut u32) -> Drawn;
+    fn knellgable_log(
+        order: *const u8,
+        order_bytes: usize,
+        plan: *const u8,
+        plan_bytes: usize,
+        dose: usize,
+        log: *const u8,
+        log_bytes: usize,
+    ) -> Laid;
 }
 
 /// An order and the plan made for it. Slices are lent for each call only, so every call below is sound for any bytes.
@@ -59,6 +80,20 @@ impl Desk {
     fn advance(&self, dose: usize, tick: &mut u32) -> Drawn {
         unsafe { knellgable_advance(self.order.as_ptr(), self.order.len(), self.plan.as_ptr(), self.plan.len(), dose, tick) }
     }
+
+    fn log(&self, dose: usize, log: &[u8]) -> Laid {
+        let (order, plan) = (&self.order, &self.plan);
+        unsafe { knellgable_log(order.as_ptr(), order.len(), plan.as_ptr(), plan.len(), dose, log.as_ptr(), log.len()) }
+    }
+}
+
+/// An M record of bay 1: form 0 is a missing reading, 1 a counter, 2 a flow.
+fn reading(tick: u32, form: u8, value: u32) -> [u8; 32] {
+    let mut record = [0; 32];
+    record[..3].copy_from_slice(&[0x4D, form, 1]);
+    record[4..8].copy_from_slice(&tick.to_le_bytes());
+    record[8..12].copy_from_slice(&value.to_le_bytes());
+    record
 }
 
 fn main() {
@@ -82,4 +117,8 @@ fn main() {
         let drawn = desk.advance(0, &mut tick);
         println!("pen at {tick}: answer {}, {} grams, state {}", drawn.number, drawn.amount, drawn.state);
     }
+
+    let log = [reading(0, 1, 4_294_967_290), reading(2, 1, 4), reading(3, 0, 0)].concat();
+    let Laid { number, metered, risen, unknown, .. } = desk.log(0, &log);
+    println!("log: answer {number}, metered {metered}/1024 grams, risen {risen}/1024, unknown {unknown} seconds");
 }

@@ -27,7 +27,41 @@ static struct bytes read_file(const char *name)
     return file;
 }
 
-/* Judged, drawn and walked: one refusal for all, or a point that the pen comes to as well. */
+/* The bay of a dose, 0 without one. */
+static unsigned bay_of(struct bytes order, size_t dose)
+{
+    for (size_t at = 0; at + 32 <= order.count; at += 32)
+        if (order.at[at] == 0x44 && dose-- == 0)
+            return order.at[at + 2] + 256u * order.at[at + 3];
+    return 0;
+}
+
+/* A log of two counters with 3 pulses between them, up to the week's end: refused as its first point is, or the line's rise from point to point. */
+static int laid(struct bytes order, struct bytes plan, size_t dose, uint32_t tick)
+{
+    const uint32_t ticks[2] = {tick, KNELLGABLE_WEEK}, counters[2] = {UINT32_MAX, 2};
+    knellgable_drawn points[2];
+    unsigned bay = bay_of(order, dose);
+    struct bytes log = {calloc(2, 32), 64};
+    for (int i = 0; i < 2; i++) {
+        uint8_t *record = log.at + 32 * i;
+        record[0] = 0x4D;
+        record[1] = 1;
+        record[2] = bay % 256;
+        record[3] = bay / 256;
+        for (int byte = 0; byte < 4; byte++) {
+            record[4 + byte] = ticks[i] >> 8 * byte;
+            record[8 + byte] = counters[i] >> 8 * byte;
+        }
+        points[i] = knellgable_point(order.at, order.count, plan.at, plan.count, dose, ticks[i]);
+    }
+    knellgable_laid laid = knellgable_log(order.at, order.count, plan.at, plan.count, dose, log.at, log.count);
+    free(log.at);
+    uint64_t metered = laid.number == 0 ? 3 * 1024 : 0, risen = 1024ull * (points[1].amount - points[0].amount);
+    return laid.number == points[0].number && laid.place == points[0].place && laid.metered == metered && laid.risen == risen && laid.unknown == 0;
+}
+
+/* Judged, drawn, walked and laid: one refusal for all, or a point that the pen comes to as well. */
 static int asked(struct bytes order, struct bytes plan, size_t dose)
 {
     knellgable_judged judged = knellgable_judge(order.at, order.count, plan.at, plan.count);
@@ -38,6 +72,8 @@ static int asked(struct bytes order, struct bytes plan, size_t dose)
         if (judged.number != 0 && (point.number != judged.number || point.place != judged.place || tick != at))
             return 1;
         if (moved.number != point.number || moved.amount != point.amount || moved.state != point.state || moved.fan != point.fan)
+            return 1;
+        if (!laid(order, plan, dose, at))
             return 1;
     }
     return 0;

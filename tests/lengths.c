@@ -1,4 +1,4 @@
-/* Lengths of 0 with null pointers, of an order and of a plan. Exits 1 at the first answer that is not the header's. */
+/* Lengths of 0 with null pointers, of an order, of a plan and of a log. Exits 1 at the first answer that is not the header's. */
 #include "knellgable.h"
 #include <stdio.h>
 
@@ -11,6 +11,7 @@ static int wrong(const char *what, uint32_t number)
 int main(void)
 {
     static const uint8_t fans[32] = {0x46, 1, [4] = 1, [8] = 1};
+    static const uint8_t dose[64] = {0x46, 1, [4] = 1, [8] = 1, [32] = 0x44, [34] = 1, [40] = 1, [44] = 1};
     static uint8_t room[KNELLGABLE_PLAN_ROOM];
     uint32_t number, tick = 7;
     if ((number = knellgable_plan(NULL, 0, room, sizeof room).number) != 6)
@@ -29,5 +30,12 @@ int main(void)
         return wrong("a pen for no bytes", number);
     if ((number = knellgable_advance(fans, sizeof fans, NULL, 0, 0, &tick).number) != 11 || tick != 7)
         return wrong("a pen in an empty plan", number);
+    if ((number = knellgable_log(NULL, 0, NULL, 0, 0, NULL, 0).number) != 6)
+        return wrong("a log for no bytes", number);
+    if ((number = knellgable_log(fans, sizeof fans, NULL, 0, 0, NULL, 0).number) != 11)
+        return wrong("a log in an empty plan", number);
+    knellgable_planned planned = knellgable_plan(dose, sizeof dose, room, sizeof room);
+    if ((number = knellgable_log(dose, sizeof dose, room, 32 * (planned.classes + planned.slots), 0, NULL, 0).number) != 0)
+        return wrong("a log of no bytes", number);
     return 0;
 }
