@@ -1,7 +1,7 @@
-/* Knellgable: CO2 doses planned, judged and drawn, every number proved.
+/* Knellgable: CO2 doses planned, judged, drawn and held against a meter's log, every number proved.
  *
- * The four functions of libknellgable.a. An order is any bytes, and so is a plan: the caller checks nothing beforehand, and every call gets
- * one answer. Each function reads only the bytes it is lent, keeps none of them, allocates nothing and holds no state: calls on different
+ * The five functions of libknellgable.a. An order is any bytes, and so are a plan and a log: the caller checks nothing beforehand, and every call
+ * gets one answer. Each function reads only the bytes it is lent, keeps none of them, allocates nothing and holds no state: calls on different
  * memory may run at the same time. A call takes under 64 KiB of stack (measured, not proved: docs/BENCHMARKS.md).
  *
  * What the caller answers for: so many bytes as the length says may be read at each pointer, and written at a planning's `plan`; a length of 0
@@ -13,8 +13,13 @@
  *   D 0x44  2-3 bay; 4-7 release; 8-11 deadline; 12-15 grams
  *   C 0x43  1 class number; 2-3 doses in it; 4-7 W; 8-11 P
  *   S 0x53  1 fan; 2-3 dose; 4-7 start tick; 8-11 start part; 12-15 end tick; 16-19 end part; 20-23 W; 24-27 P; 28 class number
+ *   M 0x4D  1 form; 2-3 bay; 4-7 tick, up to 604,800; 8-11 value
  * An order is one F and up to 24 D; a plan is C records by number, then S records by interval, fan, start. A tick is one second, a part is
  * 1/W of it. The rate of a class is W grams in P seconds of fan time.
+ *
+ * A log is up to 4,096 M records of one bay, their ticks rising. Form 0 is a missing reading, its value 0; form 1 a counter of grams, which runs
+ * from 4,294,967,295 on to 0; form 2 a mean flow in grams per second, the bits of a 32-bit IEEE 754 float that is a multiple of 1/1024 from 0 to
+ * 1,000, minus zero read as zero. A stretch between neighbouring records is known if both have the same form and neither is missing.
  *
  * The number that comes back is 0, or the first of these that holds, in this sequence:
  *    1  plan buffer under 47,392 bytes (planning only)
@@ -26,12 +31,14 @@
  *    7  more than 24 doses
  *    8  two doses of one bay with overlapping windows
  *    9  the first class is above the top rate: no plan within that rate exists
- *   10  plan bytes don't stand for the order (judging and drawing)
- *   11  no such dose (drawing)
+ *   10  plan bytes don't stand for the order (judging, drawing and a log)
+ *   11  no such dose (drawing and a log)
  *   12  tick over 604,800, or pen already at or past 604,800 (drawing)
- * place is the record's index for 3, 4 and 5, that of the first D which overlaps an earlier one for 8, else 0. With 9 come the doses of the
- * first class as a set (bit i for dose i), their weight W, which is their grams together, and their fan time P: they show that no plan
- * exists. Fields not meant are 0.
+ *   13  log length no multiple of 32, or over 131,072; a record's kind, form, bay, tick or value isn't as above, or a byte that must be zero isn't
+ *   14  a tick of the log is not above the one before; only where no record is 13
+ * place is the record's index for 3, 4 and 5, that of the first D which overlaps an earlier one for 8, that of the first such record of the log
+ * for 13 (0 for its length) and 14, else 0. With 9 come the doses of the first class as a set (bit i for dose i), their weight W, which is
+ * their grams together, and their fan time P: they show that no plan exists. Fields not meant are 0.
  */
 #ifndef KNELLGABLE_H
 #define KNELLGABLE_H
@@ -45,8 +52,10 @@ extern "C" {
 
 /* The least plan buffer that planning takes: 24 classes and 1,457 slots. */
 #define KNELLGABLE_PLAN_ROOM 47392
-/* The last tick that is drawn. */
+/* The last tick that is drawn or logged. */
 #define KNELLGABLE_WEEK 604800
+/* The longest log: 4,096 records. */
+#define KNELLGABLE_LOG_ROOM 131072
 
 /* States of a point. */
 #define KNELLGABLE_FINISHED 0 /* at or past the deadline */
@@ -76,6 +85,15 @@ typedef struct {
     uint32_t fan;    /* of Dosing, from 1; else 0 */
 } knellgable_drawn;
 
+typedef struct {
+    uint32_t number;
+    size_t place;
+    uint64_t set, weight, time;
+    uint64_t metered; /* in the known stretches, in 1/1024 gram */
+    uint64_t risen;   /* by the dose's line in the same stretches, in 1/1024 gram */
+    uint32_t unknown; /* seconds of the other stretches */
+} knellgable_laid;
+
 /* Plans an order into the lent buffer. 0: the buffer begins with `classes` C records and `slots` S records, and every byte behind them is as
  * it was. The classes are the order's: again and again, among the doses left, the largest set with the greatest grams per second of fan time
  * open to it. The slots deliver each dose exactly and inside its window, no fan and no dose is in two of them at one moment, and the plan
@@ -94,6 +112,14 @@ knellgable_drawn knellgable_point(const uint8_t *order, size_t order_bytes, cons
 
 /* Moves a pen, a dose and a lent tick, on by one tick and draws the dose there. 12 comes of the tick before it moves. Refused: the tick stays. */
 knellgable_drawn knellgable_advance(const uint8_t *order, size_t order_bytes, const uint8_t *plan, size_t plan_bytes, size_t dose, uint32_t *tick);
+
+/* Lays the log of a dose's bay beside the dose's line, in any plan that stands. 0: `metered` is what the meter counted in the known stretches, a
+ * flow held until the next record; `risen` what the drawn amount rose by in the same stretches, never more than 1,024 x the dose's grams; `unknown`
+ * the seconds of the others, for which no figure is made. Seconds before the first record and after the last belong to no stretch; under two
+ * records all three are 0. More than one turn of the counter between records can't be seen. A log that goes on from another's last record: their
+ * figures add up. */
+knellgable_laid knellgable_log(const uint8_t *order, size_t order_bytes, const uint8_t *plan, size_t plan_bytes, size_t dose, const uint8_t *log,
+                               size_t log_bytes);
 
 #ifdef __cplusplus
 }
