@@ -57,19 +57,19 @@ module _ {l : Lane} {k a x r size : ℕ} (h : ShareRoom l k a x r size) where
 
 module _ (l : Lane) (k a x r : ℕ) (b : List ℕ) where
   -- what is promised of a share
-  abbrev Laid : ℕ → List ℕ → Type 0
-  Laid q b′ = Wrote slotRecord (map (pieceSlot l) (cut (l .len * l .weight) k a x)) b r b′ q
+  abbrev LaidShare : ℕ → List ℕ → Type 0
+  LaidShare q b′ = Wrote slotRecord (map (pieceSlot l) (cut (l .len * l .weight) k a x)) b r b′ q
 
-  pub laid-none : x ≡ 0 → Laid r b
+  pub laid-none : x ≡ 0 → LaidShare r b
   laid-none e = rw (cut-none (l .len * l .weight) k a x e) (wrote-none b r)
 
   pub laid-one : {b′ : List ℕ} {s : Slot} → (x ≡ 0 → ⊥) → a % (l .len * l .weight) + x ≤ l .len * l .weight → s ≡ pieceSlot l (uncut (l .len * l .weight) k a x)
-      → b′ ≡ written b (recordSize * r) (planRecordBytes (slotRecord s)) → Laid (r + 1) b′
+      → b′ ≡ written b (recordSize * r) (planRecordBytes (slotRecord s)) → LaidShare (r + 1) b′
   laid-one n q e f = rw (cut-uncut (l .len * l .weight) k a x (omega arith) q) (wrote-one e f)
 
   pub laid-two : {b₁ b′ : List ℕ} {s u : Slot} → (x ≡ 0 → ⊥) → l .len * l .weight < a % (l .len * l .weight) + x
       → s ≡ pieceSlot l (before (l .len * l .weight) k a x) → u ≡ pieceSlot l (behind (l .len * l .weight) k a x)
-      → b₁ ≡ written b (recordSize * r) (planRecordBytes (slotRecord s)) → b′ ≡ written b₁ (recordSize * r + recordSize) (planRecordBytes (slotRecord u)) → Laid (r + 2) b′
+      → b₁ ≡ written b (recordSize * r) (planRecordBytes (slotRecord s)) → b′ ≡ written b₁ (recordSize * r + recordSize) (planRecordBytes (slotRecord u)) → LaidShare (r + 2) b′
   laid-two {b₁} {b′} {s} {u} n q d e f g =
       let second : b′ ≡ written b₁ (recordSize * (r + 1)) (planRecordBytes (slotRecord u)) = g ∙ ap (λ (at : ℕ). written b₁ at (planRecordBytes (slotRecord u))) (omega arith) in
       let next : r + 1 + 1 ≡ r + 2 = omega arith in
