@@ -19,15 +19,15 @@ use Rattle.model.specs.Intervals.{fansPresent, settingOf}
 use Rattle.model.specs.Layout.{slotsOf}
 use Rattle.model.specs.Stands.{Stands}
 use Rattle.model.specs.Line.{shut}
-use Rattle.model.specs.Log.{noFigures}
-use Rattle.model.specs.Answers.{Accepts, Answer, Drawn, Draws, Judges, Laid, Lays, Moves, Pen, Planned, Plans, noPoint, notLaid, planBytes}
+use Rattle.model.specs.Log.{noFigures, readLog}
+use Rattle.model.specs.Answers.{Accepts, Answer, Drawn, Draws, Judges, Laid, Lays, Moves, Pen, Planned, Plans, lineOf, noPoint, notLaid, planBytes}
 use Rattle.demands.proofs.Demand1.Agreeing.{Agree, drawn-laid, laid-drawn, plans-agree}
 use Rattle.demands.proofs.Demand1.ByOrder.{drawn-order, judged-order, laid-order}
 use Rattle.model.proofs.Answers.{draws-one, judges-one, lays-one, moves-one, pen-draws, pen-goes, plan-settled, refuses-number, same-slots}
 use Rattle.demands.proofs.Demand1.EveryCall.{draws-some, judges-some, lays-some, moves-some, plans-some}
 use Rattle.demands.proofs.Demand1.Rows.{DrawingRow, GivenExactly, JudgingRow, LayingRow, OnlyMeant, PlanningRow, drawing-given, judging-given, laying-given, order-meant, planning-given, planning-meant}
 use Rattle.demands.proofs.Demand2.Planning.{kept, plan-in-front}
-use Rattle.demands.proofs.Log.Given.{log-number}
+use Rattle.demands.proofs.Log.Given.{laid-either, log-number}
 
 -- ---- "Every order, plan, dose number and second gets an answer; the caller checks nothing beforehand."
 
@@ -108,12 +108,15 @@ pub pen-numbers : {order plan : List ℕ} {pen : Pen} {x : Drawn} {to : Pen} →
 pen-numbers h = drawing-numbers (pen-draws h)
 
 -- laying a log answers 0, or 2 to 11, or 13 or 14
-pub laying-numbers : {order plan : List ℕ} {d : ℕ} {log : List ℕ} {x : Laid} → Lays order plan d log x
-    → (x .answer .number ≡ 0) ⊎ (((2 ≤ x .answer .number) × (x .answer .number ≤ 11)) ⊎ ((x .answer .number ≡ 13) ⊎ (x .answer .number ≡ 14)))
+abbrev pub LayingNumber : ℕ → Type 0
+LayingNumber number = (number ≡ 0) ⊎ (((2 ≤ number) × (number ≤ 11)) ⊎ ((number ≡ 13) ⊎ (number ≡ 14)))
+
+pub laying-numbers : {order plan : List ℕ} {d : ℕ} {log : List ℕ} {x : Laid} → Lays order plan d log x → LayingNumber (x .answer .number)
 laying-numbers (Lays.refuses a j n) = elim (judging-numbers j) [ inl z ↦ inl z | inr m ↦ inr (inl (m .0, omega (arith, m))) ]
 laying-numbers (Lays.no-dose o g h l) = inr (inl (omega arith, omega arith))
-laying-numbers {d = d} {log = log} (Lays.bad-log o g h l number place e) = inr (inr (log-number (doseAt o d .bay) log number place e))
-laying-numbers (Lays.lays o g h l records e) = inl refl
+laying-numbers {plan = plan} {d = d} {log = log} (Lays.lays o g h l) =
+    laid-either (λ x. LayingNumber (x .answer .number)) (lineOf plan d) (readLog (doseAt o d .bay) log)
+    (λ number place e. inr (inr (log-number (doseAt o d .bay) log number place e))) (λ records e. inl refl)
 
 -- by 2 to 11 exactly where drawing at any tick is refused by one of them, and with the same answer
 pub laying-as-drawing : {order plan : List ℕ} {d t : ℕ} {log : List ℕ} {x : Laid} {y : Drawn} → Lays order plan d log x → Draws order plan d t y
@@ -181,10 +184,10 @@ pub laying-fields : {order plan : List ℕ} {d : ℕ} {log : List ℕ} {x : Laid
 laying-fields h = (order-meant (laid-order h), none h)
   where
     none : {order plan : List ℕ} {d : ℕ} {log : List ℕ} {x : Laid} → Lays order plan d log x → x .answer .number ≢ 0 → x .figures ≡ noFigures
-    none (Lays.refuses a j n) z = refl
-    none (Lays.no-dose o g h l) z = refl
-    none (Lays.bad-log o g h l number place e) z = refl
-    none (Lays.lays o g h l records e) z = absurd (z refl)
+    none (Lays.refuses a j n) = λ z. refl
+    none (Lays.no-dose o g h l) = λ z. refl
+    none {plan = plan} {d = d} {log = log} (Lays.lays o g h l) =
+        laid-either (λ x. x .answer .number ≢ 0 → x .figures ≡ noFigures) (lineOf plan d) (readLog (doseAt o d .bay) log) (λ number place e z. refl) (λ records e z. absurd (z refl))
 
 -- ---- "and lent memory is then untouched": "A refusal changes no byte and no pen; success changes only the plan's own records." Planning is lent its
 -- buffer and the pen itself; judging, drawing and laying a log are lent nothing that an answer could change.

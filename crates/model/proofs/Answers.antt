@@ -8,7 +8,7 @@ use native.Mathlib.Omega.{arith}
 use borrow.Author.Tests.{ne-eqb}
 use lib.Dec.{T, eqb}
 use Rattle.model.specs.Sets.{Doses}
-use Rattle.model.specs.Records.{pick, Reading, read, refused}
+use Rattle.model.specs.Records.{pick, refused}
 use Rattle.model.specs.Orders.{Order, doseAt, readOrder}
 use Rattle.model.specs.Lists.{gather}
 use Rattle.model.specs.Classes.{Setting, Row, P, Classes, free, reserved, classP}
@@ -16,8 +16,8 @@ use Rattle.model.specs.Plans.{Class, Slot, planOf, recordsBytes}
 use Rattle.model.specs.Layout.{Piece, Lane, cut, line, pieceSlot, laneSlots, lane, intervalSlots, tableSlots, tableOf, slotsOf, classAt, classesOf}
 use Rattle.model.specs.Intervals.{instantAt, settingOf, fansPresent}
 use Rattle.model.specs.Stands.{Stands}
-use Rattle.model.specs.Answers.{Answer, refusal, FirstClass, aboveTop, tooFast, Refuses, unread, above, Accepts, Judges, Drawn, noPoint, pointOf, Draws, Pen, Moves, done, notLaid, laidBy, lineOf, Laid, Lays, planBytes}
-use Rattle.model.specs.Log.{Logged, readLog, figures}
+use Rattle.model.specs.Answers.{Answer, refusal, FirstClass, aboveTop, tooFast, Refuses, unread, above, Accepts, Judges, Drawn, noPoint, pointOf, Draws, Pen, Moves, notLaid, laidBy, lineOf, Laid, Lays, planBytes}
+use Rattle.model.specs.Log.{readLog}
 use Rattle.model.proofs.Sets.{Alike, weight-alike}
 use Rattle.model.proofs.Sums.{sum-congr}
 use Rattle.model.proofs.FanTime.{P-alike, openFans-alike}
@@ -137,46 +137,18 @@ moves-one {pen = pen} h k =
 
 -- ---- logs
 
--- a log of one bay has one reading
-one-reading : {order : List ℕ} (d : ℕ) (log : List ℕ) {o o′ : Order} {x y : Reading (List Logged)} → Accepts order o → Accepts order o′
-    → readLog (doseAt o d .bay) log ≡ x → readLog (doseAt o′ d .bay) log ≡ y → x ≡ y
-one-reading d log g g′ e f = sym e ∙ ap (λ (o : Order). readLog (doseAt o d .bay) log) (one-order g g′) ∙ f
-
--- a log is laid beside a dose's line by what its bytes read as
-pub lays-by : {order plan : List ℕ} {o : Order} → Accepts order o → Stands o plan → (d : ℕ) → d < settingOf o .doses → (log : List ℕ)
-    → Lays order plan d log (laidBy (lineOf plan d) (readLog (doseAt o d .bay) log))
-unfolding laidBy
-lays-by {order} {plan} {o} g h d l log = go (readLog (doseAt o d .bay) log) refl
-  where
-    go : (x : Reading (List Logged)) → readLog (doseAt o d .bay) log ≡ x → Lays order plan d log (laidBy (lineOf plan d) x)
-    go (read records) e = Lays.lays o g h l records e
-    go (refused number place) e = Lays.bad-log o g h l number place e
-
--- in one way
+-- a log is laid in one way
 pub lays-one : {order plan : List ℕ} {d : ℕ} {log : List ℕ} {a b : Laid} → Lays order plan d log a → Lays order plan d log b → a ≡ b
 lays-one (Lays.refuses a j n) (Lays.refuses b k m) = ap notLaid (judges-one j k)
 lays-one (Lays.refuses a j n) (Lays.no-dose o g h l) = absurd (stands-refused j n g h)
-lays-one (Lays.refuses a j n) (Lays.bad-log o g h l number place e) = absurd (stands-refused j n g h)
-lays-one (Lays.refuses a j n) (Lays.lays o g h l records e) = absurd (stands-refused j n g h)
+lays-one (Lays.refuses a j n) (Lays.lays o g h l) = absurd (stands-refused j n g h)
 lays-one (Lays.no-dose o g h l) (Lays.refuses b k m) = absurd (stands-refused k m g h)
 lays-one (Lays.no-dose o g h l) (Lays.no-dose o′ g′ h′ l′) = refl
-lays-one (Lays.no-dose o g h l) (Lays.bad-log o′ g′ h′ l′ number place e) = absurd (omega (arith, one-count g g′))
-lays-one (Lays.no-dose o g h l) (Lays.lays o′ g′ h′ l′ records e) = absurd (omega (arith, one-count g g′))
-lays-one (Lays.bad-log o g h l number place e) (Lays.refuses b k m) = absurd (stands-refused k m g h)
-lays-one (Lays.bad-log o g h l number place e) (Lays.no-dose o′ g′ h′ l′) = absurd (omega (arith, one-count g g′))
-lays-one {d = d} {log = log} (Lays.bad-log o g h l number place e) (Lays.bad-log o′ g′ h′ l′ number′ place′ e′) =
-    let same : refused number place ≡ refused number′ place′ = one-reading d log g g′ e e′ in
-    let n : number ≡ number′ = cc in
-    let p : place ≡ place′ = cc in
-    ap₂ (λ (x y : ℕ). notLaid (refusal x y)) n p
-lays-one {d = d} {log = log} (Lays.bad-log o g h l number place e) (Lays.lays o′ g′ h′ l′ records e′) = absurd (no-refusal number place records (one-reading d log g g′ e e′))
-lays-one (Lays.lays o g h l records e) (Lays.refuses b k m) = absurd (stands-refused k m g h)
-lays-one (Lays.lays o g h l records e) (Lays.no-dose o′ g′ h′ l′) = absurd (omega (arith, one-count g g′))
-lays-one {d = d} {log = log} (Lays.lays o g h l records e) (Lays.bad-log o′ g′ h′ l′ number place e′) = absurd (no-refusal number place records (sym (one-reading d log g g′ e e′)))
-lays-one {plan = plan} {d = d} {log = log} (Lays.lays o g h l records e) (Lays.lays o′ g′ h′ l′ records′ e′) =
-    let read-same : read records ≡ read records′ = one-reading d log g g′ e e′ in
-    let same : records ≡ records′ = cc in
-    ap (λ (ms : List Logged). record { answer = done; figures = figures (lineOf plan d) ms }) same
+lays-one (Lays.no-dose o g h l) (Lays.lays o′ g′ h′ l′) = absurd (omega (arith, one-count g g′))
+lays-one (Lays.lays o g h l) (Lays.refuses b k m) = absurd (stands-refused k m g h)
+lays-one (Lays.lays o g h l) (Lays.no-dose o′ g′ h′ l′) = absurd (omega (arith, one-count g g′))
+lays-one {plan = plan} {d = d} {log = log} (Lays.lays o g h l) (Lays.lays o′ g′ h′ l′) =
+    ap (λ (o : Order). laidBy (lineOf plan d) (readLog (doseAt o d .bay) log)) (one-order g g′)
 
 -- ---- plans
 

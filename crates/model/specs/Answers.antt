@@ -165,8 +165,5 @@ laidBy line (refused number place) = notLaid (refusal number place)
 pub data Lays (order plan : List ℕ) (d : ℕ) (log : List ℕ) : Laid → Type 0 where
   refuses : (a : Answer) → Judges order plan a → a .number ≢ 0 → Lays order plan d log (notLaid a)
   no-dose : (o : Order) → Accepts order o → Stands o plan → settingOf o .doses ≤ d → Lays order plan d log (notLaid (refusal 11 0))
-  bad-log : (o : Order) → Accepts order o → Stands o plan → d < settingOf o .doses → (number place : ℕ)
-      → readLog (doseAt o d .bay) log ≡ refused number place → Lays order plan d log (notLaid (refusal number place))
-  lays : (o : Order) → Accepts order o → Stands o plan → d < settingOf o .doses → (records : List Logged)
-      → readLog (doseAt o d .bay) log ≡ read records
-      → Lays order plan d log (record { answer = done; figures = figures (lineOf plan d) records })
+  lays : (o : Order) → Accepts order o → Stands o plan → d < settingOf o .doses
+      → Lays order plan d log (laidBy (lineOf plan d) (readLog (doseAt o d .bay) log))

@@ -11,12 +11,13 @@ use Rattle.model.specs.Classes.{Classes}
 use Rattle.model.specs.Plans.{Class, Slot, classRecord, slotRecord, planOf, recordsBytes}
 use Rattle.model.specs.Layout.{slotsOf, classAt, classesOf}
 use Rattle.model.specs.Intervals.{settingOf, fansPresent}
-use Rattle.model.specs.Answers.{Answer, refusal, Planned, Plans, overwritten, Drawn, Draws, noPoint, Laid, Lays, notLaid}
+use Rattle.model.specs.Log.{readLog}
+use Rattle.model.specs.Answers.{Answer, refusal, Planned, Plans, overwritten, Drawn, Draws, noPoint, Laid, Lays, lineOf, notLaid}
 use Rattle.model.proofs.Lists.{length-singles}
 use Rattle.model.proofs.Plans.{records-append}
 use Rattle.model.proofs.Sequence.{count-unique}
 use Rattle.model.proofs.Answers.{one-order, refuses-one, refused-not-accepted, classes-settled}
-use Rattle.demands.proofs.Log.Given.{log-number}
+use Rattle.demands.proofs.Log.Given.{laid-either, log-number}
 
 -- two sequences of classes have one count, and so the same C records
 pub classes-alike : (o : Order) (p p′ : ℕ) (C C′ : ℕ → Doses) → Classes (settingOf o) (fansPresent o) p C → Classes (settingOf o) (fansPresent o) p′ C′
@@ -98,11 +99,12 @@ plans-agree {before = before} (Plans.plans w o g p C c x v) (Plans.plans w′ o�
 -- a log that is refused by 2 to 11: so is drawing, at any tick
 pub laid-drawn : {order plan : List ℕ} {d : ℕ} {log : List ℕ} {x : Laid} → Lays order plan d log x → 2 ≤ x .answer .number → x .answer .number ≤ 11
     → (t : ℕ) → Draws order plan d t (noPoint (x .answer))
-laid-drawn (Lays.refuses a j n) low high t = Draws.refuses a j n
-laid-drawn (Lays.no-dose o g h l) low high t = Draws.no-dose o g h l
-laid-drawn {d = d} {log = log} (Lays.bad-log o g h l number place e) low high t =
-    elim (log-number (doseAt o d .bay) log number place e) [ inl n ↦ absurd (omega arith) | inr n ↦ absurd (omega arith) ]
-laid-drawn (Lays.lays o g h l records e) low high t = absurd (omega arith)
+laid-drawn (Lays.refuses a j n) = λ low high t. Draws.refuses a j n
+laid-drawn (Lays.no-dose o g h l) = λ low high t. Draws.no-dose o g h l
+laid-drawn {order} {plan} {d} {log} (Lays.lays o g h l) =
+    laid-either (λ x. 2 ≤ x .answer .number → x .answer .number ≤ 11 → (t : ℕ) → Draws order plan d t (noPoint (x .answer))) (lineOf plan d) (readLog (doseAt o d .bay) log)
+    (λ number place e low high. elim (log-number (doseAt o d .bay) log number place e) [ inl n ↦ absurd (omega arith) | inr n ↦ absurd (omega arith) ])
+    (λ records e low high. absurd (omega arith))
 
 -- and the other way, for any log
 pub drawn-laid : {order plan : List ℕ} {d t : ℕ} {y : Drawn} → Draws order plan d t y → 2 ≤ y .answer .number → y .answer .number ≤ 11

@@ -7,8 +7,9 @@ use native.Mathlib.Omega.{arith}
 use lib.ListN.{length}
 use Rattle.model.specs.Limits.{planRoom}
 use Rattle.model.specs.Orders.{Order, doseAt}
-use Rattle.model.specs.Answers.{Answer, refusal, Refuses, Accepts, Planned, Plans, Judges, Drawn, Draws, Laid, Lays}
-use Rattle.demands.proofs.Log.Given.{log-number}
+use Rattle.model.specs.Log.{readLog}
+use Rattle.model.specs.Answers.{Answer, refusal, Refuses, Accepts, Planned, Plans, Judges, Drawn, Draws, Laid, Lays, lineOf}
+use Rattle.demands.proofs.Log.Given.{laid-either, log-number}
 
 -- the order is refused, or it is accepted and the answer has another number, and a place with 13 and 14 alone
 pub data OfOrder (order : List ℕ) : Answer → Type 0 where
@@ -33,12 +34,12 @@ drawn-order (Draws.draws o g h l w) = order-accepted 0 0 o g (omega arith) (λ a
 pub laid-order : {order plan : List ℕ} {d : ℕ} {log : List ℕ} {x : Laid} → Lays order plan d log x → OfOrder order (x .answer)
 laid-order (Lays.refuses a j n) = judged-order j
 laid-order (Lays.no-dose o g h l) = order-accepted 11 0 o g (omega arith) (λ a b. refl)
-laid-order {d = d} {log = log} (Lays.bad-log o g h l number place e) =
-    elim (log-number (doseAt o d .bay) log number place e) [
+laid-order {order} {plan} {d} {log} (Lays.lays o g h l) =
+    laid-either (λ x. OfOrder order (x .answer)) (lineOf plan d) (readLog (doseAt o d .bay) log)
+    (λ number place e. elim (log-number (doseAt o d .bay) log number place e) [
       | inl n ↦ order-accepted number place o g (omega arith) (λ a b. absurd (a n))
       | inr n ↦ order-accepted number place o g (omega arith) (λ a b. absurd (b n))
-    ]
-laid-order (Lays.lays o g h l records e) = order-accepted 0 0 o g (omega arith) (λ a b. refl)
+    ]) (λ records e. order-accepted 0 0 o g (omega arith) (λ a b. refl))
 
 -- a plan, in a buffer with room
 pub planned-order : {order before : List ℕ} {r : Planned} {after : List ℕ} → planRoom ≤ length before → Plans order before r after → OfOrder order (r .answer)

@@ -2,15 +2,13 @@
 use mathlib.Core.Logic.{_⊎_, inl, inr}
 use mathlib.Core.Path.{_≡_, refl}
 use mathlib.Core.List.{List}
-use Prim.Native.Nat.{ℕ, _≤_, _<_}
+use Prim.Native.Nat.{ℕ, _≤_}
 use native.Mathlib.Omega.{arith}
 use lib.ListN.{length}
 use Rattle.model.specs.Limits.{planRoom, week}
 use Rattle.model.specs.Records.{Reading, read, refused}
-use Rattle.model.specs.Orders.{Order, doseAt, readOrder}
+use Rattle.model.specs.Orders.{Order, readOrder}
 use Rattle.model.specs.Intervals.{settingOf}
-use Rattle.model.specs.Stands.{Stands}
-use Rattle.model.specs.Log.{Logged, readLog}
 use Rattle.model.specs.Answers.{Accepts, Answer, Drawn, Draws, Judges, Laid, Lays, Moves, Pen, Planned, Plans, Refuses, done, unread}
 use Rattle.model.proofs.Fractions.{compare≤}
 use Rattle.model.proofs.Orders.{read-fits}
@@ -84,15 +82,10 @@ module _ (order plan : List ℕ) where
   pub lays-some : (d : ℕ) (log : List ℕ) → (x : Laid) × Lays order plan d log x
   lays-some d log = go (judges-some order plan .1)
     where
-      reading : (o : Order) → Accepts order o → Stands o plan → d < settingOf o .doses → (r : Reading (List Logged)) → readLog (doseAt o d .bay) log ≡ r
-          → (x : Laid) × Lays order plan d log x
-      reading o g h l (read records) e = (_, Lays.lays o g h l records e)
-      reading o g h l (refused number place) e = (_, Lays.bad-log o g h l number place e)
-
       go : {a : Answer} → Judges order plan a → (x : Laid) × Lays order plan d log x
       go (Judges.refuses a r) = (_, Lays.refuses a (Judges.refuses a r) (λ z. omega (arith, refuses-number r)))
       go (Judges.falls o g h) = (_, Lays.refuses _ (Judges.falls o g h) (omega arith))
       go (Judges.stands o g h) = elim (compare≤ (settingOf o .doses) d) [
         | inl l ↦ (_, Lays.no-dose o g h l)
-        | inr l ↦ reading o g h l (readLog (doseAt o d .bay) log) refl
+        | inr l ↦ (_, Lays.lays o g h l)
       ]

@@ -10,15 +10,15 @@ use Rattle.model.specs.Records.{read}
 use Rattle.model.specs.Orders.{Order, readOrder, Dose, doseAt, restOf}
 use Rattle.model.specs.Intervals.{settingOf}
 use Rattle.model.specs.Stands.{Stands}
-use Rattle.model.specs.Log.{Logged}
-use Rattle.model.specs.Answers.{Accepts, Answer, Drawn, Draws, Judges, Laid, Lays, Planned, Plans, Refuses, above, refusal, tooFast, unread}
+use Rattle.model.specs.Log.{Logged, readLog}
+use Rattle.model.specs.Answers.{Accepts, Answer, Drawn, Draws, Judges, Laid, Lays, Planned, Plans, Refuses, above, laidBy, lineOf, refusal, tooFast, unread}
 use Rattle.model.proofs.Given.{Given, given-exactly, Overlap, blank, kind, many-doses, not-one-fans, overlapping, range, wrong-length, wrong-record}
 use Rattle.demands.proofs.Demand2.Refusing.{TooFast}
 use Rattle.demands.proofs.Demand1.ByOrder.{OfOrder, order-accepted, order-refused}
 use Rattle.model.proofs.Answers.{draws-one, judges-one, lays-one}
 use Rattle.demands.proofs.Demand1.Agreeing.{plans-agree}
 use Rattle.demands.proofs.Demand1.EveryCall.{accepted-planned}
-use Rattle.demands.proofs.Log.Given.{LogGiven, ReadAs, log-given-exactly, log-read-exactly}
+use Rattle.demands.proofs.Log.Given.{LogGiven, ReadAs, laid-either, log-given-exactly, log-read-exactly}
 
 -- ---- rows 2 to 8
 
@@ -179,17 +179,19 @@ module _ {order plan : List ℕ} where
     laying-row : {x : Laid} → Lays order plan d log x → LayingRow order plan d log (x .answer .number) (x .answer .place)
     laying-row (Lays.refuses a j n) = LayingRow.by-judging _ _ (judging-row j) n
     laying-row (Lays.no-dose o g h l) = LayingRow.no-dose o g h l
-    laying-row (Lays.bad-log o g h l number place e) = bad-log o g h l number place (log-given-exactly (doseAt o d .bay) log number place .0 e)
-    laying-row (Lays.lays o g h l records e) = laid o g h l records (log-read-exactly (doseAt o d .bay) log records .0 e)
+    laying-row (Lays.lays o g h l) =
+        laid-either (λ x. LayingRow order plan d log (x .answer .number) (x .answer .place)) (lineOf plan d) (readLog (doseAt o d .bay) log)
+        (λ number place e. bad-log o g h l number place (log-given-exactly (doseAt o d .bay) log number place .0 e))
+        (λ records e. laid o g h l records (log-read-exactly (doseAt o d .bay) log records .0 e))
 
     row-lays : {number place : ℕ} → LayingRow order plan d log number place
         → (x : Laid) × Lays order plan d log x × (x .answer .number ≡ number) × (x .answer .place ≡ place)
+    unfolding laidBy
     row-lays (LayingRow.by-judging number place row n) =
         let b = row-judges row in (_, Lays.refuses (b .0) (b .1) (λ z. n (sym (b .2) ∙ z)), b .2, b .3)
     row-lays (LayingRow.no-dose o g h l) = (_, Lays.no-dose o g h l, refl, refl)
-    row-lays (bad-log o g h l number place row) =
-        (_, Lays.bad-log o g h l number place (log-given-exactly (doseAt o d .bay) log number place .1 row), refl, refl)
-    row-lays (laid o g h l records r) = (_, Lays.lays o g h l records (log-read-exactly (doseAt o d .bay) log records .1 r), refl, refl)
+    row-lays (bad-log o g h l number place row) = let e = log-given-exactly (doseAt o d .bay) log number place .1 row in (_, Lays.lays o g h l, rw e, rw e)
+    row-lays (laid o g h l records r) = let e = log-read-exactly (doseAt o d .bay) log records .1 r in (_, Lays.lays o g h l, rw e, rw e)
 
     -- what laying a log gives, and exactly when
     pub laying-given : {x : Laid} → Lays order plan d log x → GivenExactly (x .answer) (LayingRow order plan d log)

@@ -2,13 +2,13 @@
 use mathlib.Core.Bool.{Bool, true, false, _&&_}
 use mathlib.Core.List.{List}
 use mathlib.Core.Path.{_≡_, refl}
-use Prim.Native.Nat.{ℕ, _-_, _<_}
+use Prim.Native.Nat.{ℕ, _-_}
 use native.Mathlib.Omega.{arith}
 use borrow.Author.Tests.{eqb-false, eqb-true, leb-false, leb-true}
 use lib.Dec.{T, eqb, eqb→eq, leb, ltb, ltb→lt}
 use lib.ListN.{length}
 use Rattle.model.specs.Lists.{All}
-use Rattle.model.specs.Records.{Reading, pick, read, refused}
+use Rattle.model.specs.Records.{pick}
 use Rattle.model.specs.Orders.{Order, doseAt, readOrder}
 use Rattle.model.specs.Intervals.{settingOf}
 use Rattle.model.specs.Stands.{Stands}
@@ -17,7 +17,7 @@ use Rattle.model.specs.Answers.{Accepts, Answer, Judges, Laid, Lays, laidBy, li
 use Rattle.model.specs.Cases.{Right, casePlan, cases, oneFan}
 use Rattle.model.specs.CaseTests.{sameAnswer}
 use Rattle.model.specs.LogCases.{LogCase, LogRight, benchCase, laidOf, laidTest, log-cases-pass, logCases, logTest, sameLaid}
-use Rattle.model.proofs.Answers.{lays-by, lays-one, refuses-number}
+use Rattle.model.proofs.Answers.{lays-one, refuses-number}
 use Rattle.model.proofs.Lists.{All-at}
 use Rattle.model.proofs.Orders.{three}
 use Rattle.model.proofs.Sets.{and-left, and-right}
@@ -51,7 +51,7 @@ laid-so order plan o g h d log = dose (leb (settingOf o .doses) d) refl
     dose : (b : Bool) → leb (settingOf o .doses) d ≡ b
         → Lays order plan d log (pick b (notLaid (refusal 11 0)) (laidBy (lineOf plan d) (readLog (doseAt o d .bay) log)))
     dose true e = Lays.no-dose o g h (leb-true _ _ e)
-    dose false e = lays-by g h d (leb-false _ _ e) log
+    dose false e = Lays.lays o g h (leb-false _ _ e)
 
 -- a row that passes is right
 pub log-row-right : (c : LogCase) → T (logTest c) → LogRight c

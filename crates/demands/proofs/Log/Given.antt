@@ -11,7 +11,8 @@ use lib.Dec.{T, T-not, eqb, eqb-refl, eqb→eq, leb, leb→le, ltb, ltb→lt, nl
 use lib.ListN.{length, getD}
 use Rattle.model.specs.Limits.{logRoom, week}
 use Rattle.model.specs.Records.{Reading, andThen, blankAt, meterKind, meterParts, pick, read, readAll, recordAt, recordSize, refused}
-use Rattle.model.specs.Log.{Logged, flowFits, flowIn, loggedOf, meterFits, meterOf, missing, readLog, rises, risesFrom, valueFits}
+use Rattle.model.specs.Log.{Logged, figures, flowFits, flowIn, loggedOf, meterFits, meterOf, missing, readLog, rises, risesFrom, valueFits}
+use Rattle.model.specs.Answers.{Laid, done, laidBy, notLaid, refusal}
 use Rattle.model.proofs.Fractions.{compare≤}
 use Rattle.model.proofs.Readings.{First, Listed, Says, refusal-says, says-pick, says-then, walk-read, walk-refused, walk-says}
 use Rattle.model.proofs.Sets.{and-left, and-right}
@@ -336,3 +337,11 @@ log-number bay log number place e = row-number (log-given-exactly bay log number
     row-number (wrong-length w) = inl refl
     row-number (wrong-record i r bad) = inl refl
     row-number (not-above records g i n none) = inr refl
+
+-- what a log comes to, by its two cases: what holds of every refusal of it and of its records' figures
+pub laid-either : (Claim : Laid → Type 0) (line : ℕ → ℕ) (x : Reading (List Logged))
+    → ((number place : ℕ) → x ≡ refused number place → Claim (notLaid (refusal number place)))
+    → ((records : List Logged) → x ≡ read records → Claim (record { answer = done; figures = figures line records })) → Claim (laidBy line x)
+unfolding laidBy
+laid-either Claim line (read records) bad good = good records refl
+laid-either Claim line (refused number place) bad good = bad number place refl

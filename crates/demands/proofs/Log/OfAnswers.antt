@@ -12,11 +12,11 @@ use Rattle.model.specs.Orders.{Order, doseAt, readOrder}
 use Rattle.model.specs.Intervals.{settingOf}
 use Rattle.model.specs.Stands.{Stands}
 use Rattle.model.specs.Log.{Logged, figures, ifKnown, metering, noFigures, readLog, seconds, stretches}
-use Rattle.model.specs.Answers.{Accepts, Drawn, Laid, Lays, lineOf}
+use Rattle.model.specs.Answers.{Accepts, Drawn, Laid, Lays, laidBy, lineOf}
 use Rattle.model.proofs.Answers.{lays-one, one-order}
 use Rattle.demands.proofs.Demand3.OfAnswers.{Answers, amount-is}
 use Rattle.demands.proofs.Log.Stretches.{AllKnown, firstTick, lastTick}
-use Rattle.demands.proofs.Log.Given.{log-number}
+use Rattle.demands.proofs.Log.Given.{laid-either, log-number}
 use Rattle.demands.proofs.Log.Metered.{AddUp}
 use Rattle.demands.proofs.Log.Metered as metered
 use Rattle.demands.proofs.Log.Joined.{Continues, joined, joined-add-up}
@@ -34,12 +34,12 @@ pub record LogLaid (order plan : List ℕ) (d : ℕ) (log : List ℕ) (x : Laid)
 
 -- laying answered 0
 pub laid-done : {order plan : List ℕ} {d : ℕ} {log : List ℕ} {x : Laid} → Lays order plan d log x → x .answer .number ≡ 0 → LogLaid order plan d log x
-laid-done (Lays.refuses a j n) e = absurd (n e)
-laid-done (Lays.no-dose o acc st l) e = absurd (omega arith)
-laid-done {d = d} {log = log} (Lays.bad-log o acc st l number place q) e =
-    elim (log-number (doseAt o d .bay) log number place q) [ inl n ↦ absurd (omega arith) | inr n ↦ absurd (omega arith) ]
-laid-done (Lays.lays o acc st l records q) e =
-    record { read-order = o; accepts = acc; stands = st; listed = l; records = records; reads = q; is = refl }
+laid-done (Lays.refuses a j n) = λ e. absurd (n e)
+laid-done (Lays.no-dose o acc st l) = λ e. absurd (omega arith)
+laid-done {order} {plan} {d} {log} (Lays.lays o acc st l) =
+    laid-either (λ x. x .answer .number ≡ 0 → LogLaid order plan d log x) (lineOf plan d) (readLog (doseAt o d .bay) log)
+    (λ number place q e. elim (log-number (doseAt o d .bay) log number place q) [ inl n ↦ absurd (omega arith) | inr n ↦ absurd (omega arith) ])
+    (λ records q e. record { read-order = o; accepts = acc; stands = st; listed = l; records = records; reads = q; is = refl })
 
 module _ (order plan : List ℕ) (d : ℕ) (log : List ℕ) (x : Laid) (h : Lays order plan d log x) (z : x .answer .number ≡ 0)
     (o : Order) (e : readOrder order ≡ read o) (records : List Logged) (r : readLog (doseAt o d .bay) log ≡ read records) where
@@ -95,10 +95,11 @@ module _ (order plan : List ℕ) (d : ℕ) (log : List ℕ) (x : Laid) (h : Lays
 pub continued-adds-up : (order plan : List ℕ) (d : ℕ) (log log′ : List ℕ) → Continues log log′ → length (joined log log′) ≤ logRoom → (x y z : Laid)
     → Lays order plan d log x → Lays order plan d log′ y → Lays order plan d (joined log log′) z → x .answer .number ≡ 0 → y .answer .number ≡ 0
     → (z .answer .number ≡ 0) × AddUp (x .figures) (y .figures) (z .figures)
+unfolding laidBy
 continued-adds-up order plan d log log′ c short x y z hx hy hz ex ey =
     let a = laid-done hx ex in
     let b = laid-done hy ey in
     let o = a .read-order in
     let j = joined-add-up (lineOf plan d) (doseAt o d .bay) log log′ c short (a .records) (b .records) (a .reads) (rw (one-order (b .accepts) (a .accepts)) at (b .reads)) in
-    let same = lays-one hz (Lays.lays o (a .accepts) (a .stands) (a .listed) (j .0) (j .1)) in
+    let same = rw (j .1) at (lays-one hz (Lays.lays o (a .accepts) (a .stands) (a .listed))) in
     (ap (λ (l : Laid). l .answer .number) same, rw (a .is, b .is, same) (j .2))
