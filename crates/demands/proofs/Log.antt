@@ -16,9 +16,9 @@ use Rattle.model.specs.Records.{read}
 use Rattle.model.specs.Orders.{Order, doseAt, readOrder}
 use Rattle.model.specs.Intervals.{settingOf}
 use Rattle.model.specs.Stands.{Stands}
-use Rattle.model.specs.Log.{Figures, Logged, figures, figuresOf, ifKnown, ifUnknown, metering, readLog, seconds, stretches}
+use Rattle.model.specs.Log.{Figures, Logged, figures, figuresOf, ifKnown, ifUnknown, metering, readLog, rise, seconds, stretches}
 use Rattle.model.specs.Answers.{lineOf}
-use Rattle.demands.proofs.Log.Stretches.{AllKnown, NeverFalls, firstTick, lastTick, none-unknown, rise, rises-together}
+use Rattle.demands.proofs.Log.Stretches.{AllKnown, NeverFalls, firstTick, lastTick, none-unknown, rises-together}
 use Rattle.demands.proofs.Log.Stretches as stretches-of
 use Rattle.demands.proofs.Log.Given.{ReadAs, log-read-exactly}
 use Rattle.demands.proofs.Demand3.{all-from-the-deadline, never-falls, zero-up-to-the-start}

@@ -49,14 +49,14 @@ module _ (S : Setting) (G : House S) (Z : Pieces) (h : Runs S G Z) (k : ℕ) whe
   pub ran-up : (a b : ℕ) → a ≤ b → ran Z k a ≤ ran Z k b
   ran-up a b l = omega (arith, ran-cells a, ran-cells b, sum-up (running Z it) a b l)
 
-  rise : (a l : ℕ) → sum (a + l) (running Z it) ≤ sum a (running Z it) + l
+  running-slow : (a l : ℕ) → sum (a + l) (running Z it) ≤ sum a (running Z it) + l
   unfolding sum
-  rise a zero = rw (add-zero a) (omega arith)
-  rise a (suc l) = rw (add-suc a l) (omega (arith, rise a l, one-fan (a + l)))
+  running-slow a zero = rw (add-zero a) (omega arith)
+  running-slow a (suc l) = rw (add-suc a l) (omega (arith, running-slow a l, one-fan (a + l)))
 
   -- in l cells it rises by at most l
   pub ran-slow : (a l : ℕ) → ran Z k (a + l) ≤ ran Z k a + l
-  ran-slow a l = omega (arith, ran-cells a, ran-cells (a + l), rise a l)
+  ran-slow a l = omega (arith, ran-cells a, ran-cells (a + l), running-slow a l)
 
   -- nothing before the first piece
   pub ran-before : (x : ℕ) → ((i : ℕ) → i < m → dose i ≡ k → x ≤ s i) → ran Z k x ≡ 0

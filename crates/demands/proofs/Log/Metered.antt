@@ -9,9 +9,8 @@ use lib.Ieee.{Float}
 use lib.ListN.{length}
 use Rattle.model.specs.Limits.{counterTurn, gramParts}
 use Rattle.model.specs.Lists.{total}
-use Rattle.model.specs.Log.{Figures, Logged, MeterReading, Stretch, counter, figures, figuresOf, flow, ifKnown, ifMetered, ifUnknown, known, metering, meteringOf, missing, noFigures, pulses, seconds, stretches, stretchesFrom, unknown}
+use Rattle.model.specs.Log.{Figures, Logged, MeterReading, Stretch, counter, figures, figuresOf, flow, ifKnown, ifMetered, ifUnknown, known, metering, meteringOf, missing, noFigures, pulses, rise, seconds, stretches, stretchesFrom, unknown}
 use Rattle.model.proofs.Lists.{total-append}
-use Rattle.demands.proofs.Log.Stretches.{rise}
 
 -- ---- known stretches
 

@@ -5,7 +5,7 @@ use mathlib.Core.Logic.{_≢_}
 use Prim.Native.Nat.{ℕ, _+_, _-_, _≤_, _<_}
 use native.Mathlib.Omega.{arith}
 use Rattle.model.specs.Lists.{All, none, also, total}
-use Rattle.model.specs.Log.{Logged, Metering, Stretch, ifKnown, ifUnknown, known, metering, stretches, stretchesFrom, unknown}
+use Rattle.model.specs.Log.{Logged, Metering, Stretch, ifKnown, ifUnknown, known, metering, rise, stretches, stretchesFrom, unknown}
 
 -- ---- first and last tick
 
@@ -34,10 +34,6 @@ pub data Rises : List Logged → Type 0 where
 -- a line never falls
 abbrev pub NeverFalls : (ℕ → ℕ) → Type 0
 NeverFalls line = (t h : ℕ) → line t ≤ line (t + h)
-
--- what it rises by in a stretch
-abbrev pub rise : (ℕ → ℕ) → Stretch → ℕ
-rise line s = line (s .to .tick) - line (s .from .tick)
 
 -- ---- a stretch is known or it is not
 
