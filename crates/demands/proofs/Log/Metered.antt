@@ -54,8 +54,9 @@ unfolding meteringOf
 counter-ran x y n h hx hn e = ap (λ (p : ℕ). known (gramParts * p)) (pulses-lead x y n hx hn e)
 
 -- a counter that stands still metered nothing
-pub counter-still : (x h : ℕ) → x < counterTurn → meteringOf (counter x) (counter x) h ≡ known 0
-counter-still x h hx = counter-ran x x 0 h hx (omega arith) (omega arith)
+pub counter-still : (x h : ℕ) → meteringOf (counter x) (counter x) h ≡ known 0
+unfolding meteringOf
+counter-still x h = let none : pulses x x ≡ 0 = omega arith in ap (λ (p : ℕ). known (gramParts * p)) none
 
 -- ---- what one stretch adds
 

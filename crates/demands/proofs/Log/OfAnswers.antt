@@ -1,7 +1,7 @@
 -- The log's theorems over the answers themselves: for all orders, plans, doses and logs for which laying the log answers 0. Assumes nothing.
 use mathlib.Core.Path.{_≡_, refl, ap, _∙_}
 use mathlib.Core.Logic.{inl, inr}
-use mathlib.Core.List.{List}
+use mathlib.Core.List.{List, [], _∷_, _++_}
 use Prim.Native.Nat.{ℕ, _+_, _*_, _-_, _≤_, _<_}
 use native.Mathlib.Omega.{arith}
 use lib.ListN.{length}
@@ -11,7 +11,7 @@ use Rattle.model.specs.Records.{read}
 use Rattle.model.specs.Orders.{Order, doseAt, readOrder}
 use Rattle.model.specs.Intervals.{settingOf}
 use Rattle.model.specs.Stands.{Stands}
-use Rattle.model.specs.Log.{Logged, figures, ifKnown, metering, noFigures, readLog, seconds, stretches}
+use Rattle.model.specs.Log.{Figures, Logged, Stretch, counter, figures, figuresOf, ifKnown, metering, noFigures, readLog, rise, seconds, stretches, unknown}
 use Rattle.model.specs.Answers.{Accepts, Drawn, Laid, Lays, laidBy, lineOf}
 use Rattle.model.proofs.Answers.{lays-one, one-order}
 use Rattle.demands.proofs.Demand3.OfAnswers.{Answers, amount-is}
@@ -85,6 +85,23 @@ module _ (order plan : List ℕ) (d : ℕ) (log : List ℕ) (x : Laid) (h : Lays
   -- never more than the dose's grams
   pub risen-at-most-the-grams : x .figures .risen ≤ gramParts * doseAt o d .grams
   risen-at-most-the-grams = rw figures-are (laid.risen-at-most-the-grams order o e plan stands d listed log records r)
+
+  -- what one stretch of the log adds to the figures of the others
+  stretch-adds : (front back : List Stretch) (s : Stretch) → stretches records ≡ front ++ s ∷ back → (own : Figures) → figuresOf (lineOf plan d) (s ∷ []) ≡ own
+      → AddUp (figuresOf (lineOf plan d) (front ++ back)) own (x .figures)
+  stretch-adds front back s p own q = rw (figures-are, p) (rw q at (metered.stretch-adds (lineOf plan d) front back s))
+
+  -- "No figure is made for an unknown stretch": it adds to neither metered nor risen, and its seconds to the unknown ones
+  pub unknown-adds : (front back : List Stretch) (s : Stretch) → stretches records ≡ front ++ s ∷ back → metering s ≡ unknown
+      → AddUp (figuresOf (lineOf plan d) (front ++ back)) (record { metered = 0; risen = 0; unknown = seconds s }) (x .figures)
+  unknown-adds front back s p u = stretch-adds front back s p _ (metered.unknown-adds (lineOf plan d) s u)
+
+  -- a counter that stands still adds nothing to what was metered
+  pub counter-still-adds : (front back : List Stretch) (s : Stretch) → stretches records ≡ front ++ s ∷ back → (n : ℕ)
+      → s .from .reading ≡ counter n → s .to .reading ≡ counter n
+      → AddUp (figuresOf (lineOf plan d) (front ++ back)) (record { metered = 0; risen = gramParts * rise (lineOf plan d) s; unknown = 0 }) (x .figures)
+  counter-still-adds front back s p n a b =
+      stretch-adds front back s p _ (metered.known-adds (lineOf plan d) s 0 (rw (a, b) (metered.counter-still n (seconds s))))
 
   -- "under two records, all are zero"
   pub under-two-zero : length records < 2 → x .figures ≡ noFigures
