@@ -30,3 +30,4 @@ pub mod DrawnLine
 pub mod Standing
 pub mod Answers
 pub mod Flows
+pub mod Figures

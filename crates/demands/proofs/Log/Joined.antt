@@ -11,10 +11,11 @@ use lib.Seq.{drop-append-add, drop-append-le, drop-drop, getD-append-add, getD-a
 use Rattle.model.specs.Limits.{logRoom}
 use Rattle.model.specs.Records.{Reading, blankAt, meterKind, meterParts, pick, read, recordAt, recordSize, refused}
 use Rattle.model.specs.Log.{Logged, figures, loggedIn, loggedOf, meterFits, meterOf, readLog}
+use Rattle.model.proofs.Figures.{AddUp}
 use Rattle.model.proofs.Fractions.{compare≤}
 use Rattle.model.proofs.Orders.{no-refusal}
 use Rattle.demands.proofs.Log.Stretches.{Rises, RisesBehind, behind, from, last}
-use Rattle.demands.proofs.Log.Metered.{AddUp, logs-add-up}
+use Rattle.demands.proofs.Log.Metered.{logs-add-up}
 use Rattle.demands.proofs.Log.Given.{LogRecords, ReadAs, log-read-exactly, noLogged}
 
 -- ---- records of joined bytes

@@ -9,7 +9,8 @@ use lib.Ieee.{Float}
 use lib.ListN.{length}
 use Rattle.model.specs.Limits.{counterTurn, gramParts}
 use Rattle.model.specs.Lists.{total}
-use Rattle.model.specs.Log.{Figures, Logged, MeterReading, Stretch, counter, figures, figuresOf, flow, ifKnown, ifMetered, ifUnknown, known, metering, meteringOf, missing, noFigures, pulses, rise, seconds, stretches, stretchesFrom, unknown}
+use Rattle.model.specs.Log.{Logged, MeterReading, Stretch, counter, figures, figuresOf, flow, ifKnown, ifMetered, ifUnknown, known, metering, meteringOf, missing, noFigures, pulses, rise, seconds, stretches, stretchesFrom, unknown}
+use Rattle.model.proofs.Figures.{AddUp}
 use Rattle.model.proofs.Lists.{total-append}
 
 -- ---- known stretches
@@ -59,12 +60,6 @@ unfolding meteringOf
 counter-still x h = let none : pulses x x ≡ 0 = omega arith in ap (λ (p : ℕ). known (gramParts * p)) none
 
 -- ---- what one stretch adds
-
--- the sums of figures
-pub record AddUp (a b c : Figures) : Type 0 where
-  pub metered : c .metered ≡ a .metered + b .metered
-  pub risen : c .risen ≡ a .risen + b .risen
-  pub unknown : c .unknown ≡ a .unknown + b .unknown
 
 module _ (line : ℕ → ℕ) where
   -- two lists of stretches

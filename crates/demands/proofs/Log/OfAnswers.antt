@@ -14,10 +14,10 @@ use Rattle.model.specs.Stands.{Stands}
 use Rattle.model.specs.Log.{Figures, Logged, Stretch, counter, figures, figuresOf, ifKnown, metering, noFigures, readLog, rise, seconds, stretches, unknown}
 use Rattle.model.specs.Answers.{Accepts, Drawn, Laid, Lays, laidBy, lineOf}
 use Rattle.model.proofs.Answers.{lays-one, one-order}
+use Rattle.model.proofs.Figures.{AddUp}
 use Rattle.demands.proofs.Demand3.OfAnswers.{Answers, amount-is}
 use Rattle.demands.proofs.Log.Stretches.{AllKnown, firstTick, lastTick}
 use Rattle.demands.proofs.Log.Given.{laid-either, log-number}
-use Rattle.demands.proofs.Log.Metered.{AddUp}
 use Rattle.demands.proofs.Log.Metered as metered
 use Rattle.demands.proofs.Log.Joined.{Continues, joined, joined-add-up}
 use Rattle.demands.proofs.Log as laid
