@@ -82,6 +82,12 @@ judges-one (Judges.stands o g h) (Judges.refuses b s) = absurd (refused-not-acce
 judges-one {order} {plan} (Judges.stands o g h) (Judges.falls o′ g′ h′) = absurd (h′ (subst (λ (o : Order). Stands o plan) (one-order g g′) h))
 judges-one (Judges.stands o g h) (Judges.stands o′ g′ h′) = refl
 
+-- a plan that is judged 0 stands
+pub judged-zero : {order plan : List ℕ} {a : Answer} → Judges order plan a → a .number ≡ 0 → (o : Order) × Accepts order o × Stands o plan
+judged-zero (Judges.refuses a r) z = absurd (omega (arith, refuses-number r))
+judged-zero (Judges.falls o g h) z = absurd (omega arith)
+judged-zero (Judges.stands o g h) z = (o, g, h)
+
 -- ---- points and pens
 
 -- a plan that stands is not refused

@@ -3,7 +3,6 @@ use mathlib.Core.Bool.{Bool, true, false, _&&_}
 use mathlib.Core.List.{List}
 use mathlib.Core.Path.{_≡_, refl}
 use Prim.Native.Nat.{ℕ, _-_}
-use native.Mathlib.Omega.{arith}
 use borrow.Author.Tests.{eqb-false, eqb-true, leb-false, leb-true}
 use lib.Dec.{T, eqb, eqb→eq, leb, ltb, ltb→lt}
 use lib.ListN.{length}
@@ -13,11 +12,11 @@ use Rattle.model.specs.Orders.{Order, doseAt, readOrder}
 use Rattle.model.specs.Intervals.{settingOf}
 use Rattle.model.specs.Stands.{Stands}
 use Rattle.model.specs.Log.{readLog}
-use Rattle.model.specs.Answers.{Accepts, Answer, Judges, Laid, Lays, laidBy, lineOf, notLaid, refusal}
+use Rattle.model.specs.Answers.{Accepts, Laid, Lays, laidBy, lineOf, notLaid, refusal}
 use Rattle.model.specs.Cases.{Right, casePlan, cases, oneFan}
 use Rattle.model.specs.CaseTests.{sameAnswer}
 use Rattle.model.specs.LogCases.{LogCase, LogRight, benchCase, laidOf, laidTest, log-cases-pass, logCases, logTest, sameLaid}
-use Rattle.model.proofs.Answers.{lays-one, refuses-number}
+use Rattle.model.proofs.Answers.{judged-zero, lays-one}
 use Rattle.model.proofs.Lists.{All-at}
 use Rattle.model.proofs.Orders.{three}
 use Rattle.model.proofs.Sets.{and-left, and-right}
@@ -36,12 +35,6 @@ same-laid a b t =
     let risen = eqb→eq (a .figures .risen) (b .figures .risen) (f .1) in
     let unknown = eqb→eq (a .figures .unknown) (b .figures .unknown) (f .2) in
     λ i. record { answer = answer i; figures = record { metered = metered i; risen = risen i; unknown = unknown i } }
-
--- a plan that is judged 0 stands
-judged-stands : {order plan : List ℕ} {a : Answer} → Judges order plan a → a .number ≡ 0 → (o : Order) × Accepts order o × Stands o plan
-judged-stands (Judges.refuses a r) z = absurd (omega (arith, refuses-number r))
-judged-stands (Judges.falls o g h) z = absurd (omega arith)
-judged-stands (Judges.stands o g h) z = (o, g, h)
 
 -- what is laid then, by its definition
 laid-so : (order plan : List ℕ) (o : Order) → Accepts order o → Stands o plan → (d : ℕ) (log : List ℕ) → Lays order plan d log (laidOf o plan d log)
@@ -70,7 +63,7 @@ log-row-right c t = record { lays = lays; only = λ x h. lays-one h lays }
     by-number : (b : Bool) → eqb (benchCase c .answer .number) 0 ≡ b
         → T (pick b (laidTest c (readOrder (benchCase c .order))) (sameLaid (notLaid (benchCase c .answer)) (c .laid)))
         → Lays (benchCase c .order) (casePlan (benchCase c)) (c .dose) (c .log) (c .laid)
-    by-number true e u = let s = judged-stands (bench .judged) (eqb-true _ _ e) in by-order (s .0) (s .1) (s .2) u
+    by-number true e u = let s = judged-zero (bench .judged) (eqb-true _ _ e) in by-order (s .0) (s .1) (s .2) u
     by-number false e u =
         let same = same-laid (notLaid (benchCase c .answer)) (c .laid) u in
         rw (← same) (Lays.refuses (benchCase c .answer) (bench .judged) (eqb-false _ _ e))
