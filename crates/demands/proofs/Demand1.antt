@@ -21,9 +21,9 @@ use Rattle.model.specs.Stands.{Stands}
 use Rattle.model.specs.Line.{shut}
 use Rattle.model.specs.Log.{noFigures, readLog}
 use Rattle.model.specs.Answers.{Accepts, Answer, Drawn, Draws, Judges, Laid, Lays, Moves, Pen, Planned, Plans, lineOf, noPoint, notLaid, planBytes}
-use Rattle.demands.proofs.Demand1.Agreeing.{Agree, drawn-laid, laid-drawn, plans-agree}
+use Rattle.demands.proofs.Demand1.Agreeing.{Agree, laid-drawn, plans-agree}
 use Rattle.demands.proofs.Demand1.ByOrder.{drawn-order, judged-order, laid-order}
-use Rattle.model.proofs.Answers.{draws-one, judges-one, lays-one, moves-one, pen-draws, pen-goes, plan-settled, refuses-number, same-slots}
+use Rattle.model.proofs.Answers.{drawn-refused, draws-one, judges-one, lays-one, moves-one, pen-draws, pen-goes, plan-settled, refuses-number, same-slots}
 use Rattle.demands.proofs.Demand1.EveryCall.{draws-some, judges-some, lays-some, moves-some, plans-some}
 use Rattle.demands.proofs.Demand1.Rows.{DrawingRow, GivenExactly, JudgingRow, LayingRow, OnlyMeant, PlanningRow, drawing-given, judging-given, laying-given, order-meant, planning-given, planning-meant}
 use Rattle.demands.proofs.Demand2.Planning.{kept, plan-in-front}
@@ -121,7 +121,7 @@ laying-numbers {plan = plan} {d = d} {log = log} (Lays.lays o g h l) =
 -- by 2 to 11 exactly where drawing at any tick is refused by one of them, and with the same answer
 pub laying-as-drawing : {order plan : List ℕ} {d t : ℕ} {log : List ℕ} {x : Laid} {y : Drawn} → Lays order plan d log x → Draws order plan d t y
     → (2 ≤ x .answer .number → x .answer .number ≤ 11 → y ≡ noPoint (x .answer)) × (2 ≤ y .answer .number → y .answer .number ≤ 11 → x ≡ notLaid (y .answer))
-laying-as-drawing {t = t} {log = log} h k = (λ low high. draws-one k (laid-drawn h low high t), λ low high. lays-one h (drawn-laid k low high log))
+laying-as-drawing {t = t} h k = (λ low high. draws-one k (laid-drawn h low high t), λ low high. lays-one h (drawn-refused k (omega arith) (omega arith)))
 
 -- ---- "given exactly when": the answer has a number and a place exactly when their row of the table says
 

@@ -156,6 +156,14 @@ lays-one (Lays.lays o g h l) (Lays.no-dose o′ g′ h′ l′) = absurd (omega 
 lays-one {plan = plan} {d = d} {log = log} (Lays.lays o g h l) (Lays.lays o′ g′ h′ l′) =
     ap (λ (o : Order). laidBy (lineOf plan d) (readLog (doseAt o d .bay) log)) (one-order g g′)
 
+-- where drawing at some tick is refused, and not by 12, laying any log is refused so too
+pub drawn-refused : {order plan log : List ℕ} {d t : ℕ} {y : Drawn} → Draws order plan d t y → y .answer .number ≢ 0 → y .answer .number ≢ 12
+    → Lays order plan d log (notLaid (y .answer))
+drawn-refused (Draws.refuses a j n) z late = Lays.refuses a j n
+drawn-refused (Draws.no-dose o g h l) z late = Lays.no-dose o g h l
+drawn-refused (Draws.too-late o g h l w) z late = absurd (late refl)
+drawn-refused (Draws.draws o g h l w) z late = absurd (z refl)
+
 -- ---- plans
 
 gather-congr : {A : Type 0} (n : ℕ) (f g : ℕ → List A) → ((k : ℕ) → k < n → f k ≡ g k) → gather n f ≡ gather n g

@@ -12,7 +12,7 @@ use Rattle.model.specs.Plans.{Class, Slot, classRecord, slotRecord, planOf, rec
 use Rattle.model.specs.Layout.{slotsOf, classAt, classesOf}
 use Rattle.model.specs.Intervals.{settingOf, fansPresent}
 use Rattle.model.specs.Log.{readLog}
-use Rattle.model.specs.Answers.{Answer, refusal, Planned, Plans, overwritten, Drawn, Draws, noPoint, Laid, Lays, lineOf, notLaid}
+use Rattle.model.specs.Answers.{Answer, refusal, Planned, Plans, overwritten, Draws, noPoint, Laid, Lays, lineOf}
 use Rattle.model.proofs.Lists.{length-singles}
 use Rattle.model.proofs.Plans.{records-append}
 use Rattle.model.proofs.Sequence.{count-unique}
@@ -105,11 +105,3 @@ laid-drawn {order} {plan} {d} {log} (Lays.lays o g h l) =
     laid-either (λ x. 2 ≤ x .answer .number → x .answer .number ≤ 11 → (t : ℕ) → Draws order plan d t (noPoint (x .answer))) (lineOf plan d) (readLog (doseAt o d .bay) log)
     (λ number place e low high. elim (log-number (doseAt o d .bay) log number place e) [ inl n ↦ absurd (omega arith) | inr n ↦ absurd (omega arith) ])
     (λ records e low high. absurd (omega arith))
-
--- and the other way, for any log
-pub drawn-laid : {order plan : List ℕ} {d t : ℕ} {y : Drawn} → Draws order plan d t y → 2 ≤ y .answer .number → y .answer .number ≤ 11
-    → (log : List ℕ) → Lays order plan d log (notLaid (y .answer))
-drawn-laid (Draws.refuses a j n) low high log = Lays.refuses a j n
-drawn-laid (Draws.no-dose o g h l) low high log = Lays.no-dose o g h l
-drawn-laid (Draws.too-late o g h l w) low high log = absurd (omega arith)
-drawn-laid (Draws.draws o g h l w) low high log = absurd (omega arith)
