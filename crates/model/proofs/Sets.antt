@@ -1,5 +1,5 @@
 -- Unions, parts and differences of sets of doses, and the laws of their weights.
-use mathlib.Core.Bool.{Bool, _&&_, _||_, false, not, true}
+use mathlib.Core.Bool.{Bool, _&&_, _||_, false, not, true, true≢false}
 use mathlib.Core.Path.{_∙_, _≡_, ap, refl, sym}
 use Prim.Native.Nat.{_*_, _+_, _<_, _≤_, suc, zero, ℕ}
 use native.Mathlib.Nat.{le-antisymm}
@@ -77,6 +77,11 @@ and-left true b t = tt
 -- and the right
 pub and-right : (a b : Bool) → T (a && b) → T b
 and-right true b t = t
+
+-- a conjunction that is true: so are both tests
+pub both-true : (a b : Bool) → (a && b) ≡ true → (a ≡ true) × (b ≡ true)
+both-true true b h = (refl, h)
+both-true false b h = absurd (true≢false (sym h))
 
 -- a member of B is not in A without B
 pub and-not : (a b : Bool) → T b → T (not (a && not b))

@@ -1,5 +1,5 @@
 -- Round trips of numbers and records: what is written is read again, and bytes that are read are written back.
-use mathlib.Core.Bool.{Bool, _&&_, true, false}
+use mathlib.Core.Bool.{true}
 use mathlib.Core.Logic.{inl, inr}
 use mathlib.Core.Path.{_∙_, _≡_, ap, refl, sym}
 use mathlib.Core.List.{List, [], _∷_, _++_, append-assoc}
@@ -13,6 +13,7 @@ use lib.Seq.{drop-cons, drop-drop, getD-append-add, getD-drop, getD-take, take-a
 use Rattle.model.specs.Records.{Part, blank, blankAt, field, fieldsAt, numberAt, numberBytes, recordBytes}
 use Rattle.model.proofs.Fractions.{compare≤}
 use Rattle.model.proofs.Records.{length-number, length-zeros, sizeOf}
+use Rattle.model.proofs.Sets.{both-true}
 
 -- ---- bytes
 
@@ -89,14 +90,6 @@ unfolding numberBytes
 number-zero zero = refl
 number-zero (suc width) = ap (λ (l : List ℕ). 0 ∷ l) (number-zero width)
 
-and-true-left : (a b : Bool) → a && b ≡ true → a ≡ true
-and-true-left true b e = refl
-and-true-left false b e = e
-
-and-true-right : (a b : Bool) → a && b ≡ true → b ≡ true
-and-true-right true b e = e
-and-true-right false b e = let z : _≡_ {A = ℕ} 0 1 = cc in absurd (omega arith)
-
 -- ---- a record
 
 -- the values are as many as the fields, and fit their widths
@@ -163,7 +156,7 @@ fields-taken [] b h at z l = refl
 fields-taken (field width ∷ parts) b h at z l =
     rw (take-add width (sizeOf parts) (drop at b), drop-drop width at b, number-taken b h at width (omega arith), fields-taken parts b h (at + width) z (omega arith))
 fields-taken (blank width ∷ parts) b h at z l =
-    let zero-here : numberAt b at width ≡ 0 = eqb-true (numberAt b at width) 0 (and-true-left _ _ z) in
-    let rest-zero : blankAt parts b (at + width) ≡ true = and-true-right (eqb (numberAt b at width) 0) _ z in
+    let p = both-true (eqb (numberAt b at width) 0) (blankAt parts b (at + width)) z in
+    let zero-here : numberAt b at width ≡ 0 = eqb-true (numberAt b at width) 0 (p .0) in
     let zeros : replicate width 0 ≡ take width (drop at b) = sym (number-zero width) ∙ rw zero-here at (number-taken b h at width (omega arith)) in
-    rw (take-add width (sizeOf parts) (drop at b), drop-drop width at b, zeros, fields-taken parts b h (at + width) rest-zero (omega arith))
+    rw (take-add width (sizeOf parts) (drop at b), drop-drop width at b, zeros, fields-taken parts b h (at + width) (p .1) (omega arith))
