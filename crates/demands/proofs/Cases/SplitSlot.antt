@@ -16,13 +16,13 @@ use Rattle.model.specs.Classes.{P, openFans, free, classP}
 use Rattle.model.specs.Intervals.{insert, instants, settingOf, fansPresent}
 use Rattle.model.specs.Plans.{Class, planOf, planRecordBytes, recordsBytes}
 use Rattle.model.specs.Stands.{Named, InInterval, InOrder, by-interval, by-start, EndsBy, SlotsStand, Stands, unitsOf}
-use Rattle.model.specs.Answers.{Answer, done, Accepts, Planned, Plans, overwritten, Judges}
-use Rattle.model.specs.Cases.{Case, Right, listed, oneFan, caseSets, casePlan, slot}
+use Rattle.model.specs.Answers.{done, Accepts, Planned, Plans, overwritten, Judges}
+use Rattle.model.specs.Cases.{Case, Right, listed, oneFan, caseSets, slot}
 use Rattle.model.specs.CaseTests.{faster, early, late, split}
 use Rattle.model.proofs.Lists.{Pairs-imp}
 use Rattle.model.proofs.Orders.{read-fits}
 use Rattle.demands.proofs.Written.{written-stands}
-use Rattle.model.proofs.Answers.{refuses-number}
+use Rattle.model.proofs.Answers.{judged-zero}
 use Rattle.demands.proofs.Cases.{cases-right}
 
 -- P1's row
@@ -151,15 +151,11 @@ unfolding readOrder orderOf readFrom entryOf fieldsAt blankAt numberAt numberByt
 reads = refl
 
 accepts : Accepts (P1 .order) o
-accepts = go (right .judged) refl
-  where
-    go : {a : Answer} → Judges (P1 .order) (casePlan P1) a → a .number ≡ 0 → Accepts (P1 .order) o
-    go (Judges.refuses a r) e = absurd (omega (arith, refuses-number r))
-    go (Judges.falls o′ g h) e = absurd (omega arith)
-    go (Judges.stands o′ g h) e =
-        let f = g .reads in
-        let same : o′ ≡ o = cc reads in
-        subst (λ (o : Order). Accepts (P1 .order) o) same g
+accepts =
+    let s = judged-zero (right .judged) refl in
+    let f = s .1 .reads in
+    let same : s .0 ≡ o = cc reads in
+    subst (λ (o : Order). Accepts (P1 .order) o) same (s .1)
 
 -- the bytes stand
 pub split-stands : Stands o splitPlan

@@ -12,16 +12,14 @@ use Rattle.model.specs.Orders.{Order, doseAt}
 use Rattle.model.specs.Plans.{Slot}
 use Rattle.model.specs.Stands.{starts, ends}
 use Rattle.model.specs.Line.{Covers, HasFan, State, dosing, fedAt, finished, idle, shut, stateAt}
+use Rattle.model.proofs.Sets.{both-true}
 
 -- the three tests of a slot
 abbrev tests : ℕ → ℕ → Slot → Bool
 tests d t s = eqb d (s .dose) && leb (starts s) (t * s .weight) && ltb (t * s .weight) (ends s)
 
 three : (a b c : Bool) → a && b && c ≡ true → (a ≡ true) × (b ≡ true) × (c ≡ true)
-three true true true e = (refl, refl, refl)
-three true true false e = let z : _≡_ {A = ℕ} 0 1 = cc in absurd (omega arith)
-three true false c e = let z : _≡_ {A = ℕ} 0 1 = cc in absurd (omega arith)
-three false b c e = let z : _≡_ {A = ℕ} 0 1 = cc in absurd (omega arith)
+three a b c e = let p = both-true (a && b) c e in let q = both-true a b (p .0) in (q .0, q .1, p .1)
 
 -- a slot that covers the tick t for dose d, and its fan
 pub record Fed (slots : List Slot) (d t fan : ℕ) : Type 0 where
