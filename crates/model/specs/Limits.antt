@@ -1,4 +1,4 @@
--- Limits (document 01): each number that bounds an order, what is worked out of it, or a plan, by its name.
+-- Limits (documents 01 and 02): each number that bounds an order, what is worked out of it, a plan or a log, by its name.
 use Prim.Native.Nat.{ℕ}
 
 -- ---- orders

@@ -114,7 +114,8 @@ logCases =
     ∷ notLaidCase 1 0 (counterAt 1 0 0 ++ counterAt 2 1 0 ++ 0 ∷ []) 13 0
     ∷ notLaidCase 1 0 (counterAt 1 0 0 ++ replicate 131072 0) 13 0
     ∷ notLaidCase 1 0 (counterAt 1 0 0 ++ replicate 131040 0) 13 1
-    -- before 13: 11, 9 with its set, W and P, 8 with its place, 6
+    -- before 13: 11, 9 with its set, W and P, 8 with its place, 6. 10 has no row here: a row's plan is its bench row's, which stands where the order is
+    -- accepted
     ∷ notLaidCase 1 7 (0 ∷ []) 11 0
     ∷ notLaidCase 10 0 [] 11 0
     ∷ record { row = 8; dose = 0; log = counterAt 1 4 0; laid = notLaid (record { number = 9; place = 0; set = 2; weight = 16; time = 4 }) }

@@ -1,4 +1,4 @@
--- Records (document 01, "Records"): "All records are 32 bytes, no header, numbers least significant byte first."
+-- Records (document 01, "Records"; document 02, C-11): "All records are 32 bytes, no header, numbers least significant byte first."
 use mathlib.Core.Bool.{Bool, true, false, _&&_}
 use mathlib.Core.List.{List, [], _∷_, _++_}
 use Prim.Native.Nat.{ℕ, zero, suc, _+_, _*_, _/_, _%_}
@@ -84,7 +84,7 @@ abbrev pub slotParts : List Part
 slotParts =
     field 1 ∷ field 1 ∷ field 2 ∷ field 4 ∷ field 4 ∷ field 4 ∷ field 4 ∷ field 4 ∷ field 4 ∷ field 1 ∷ blank 3 ∷ []
 
--- "M records (0x4D) of 32 bytes, byte 1 form, 2-3 bay, 4-7 tick, 8-11 value, rest zero"
+-- "M records (0x4D) of 32 bytes, byte 1 form, 2-3 bay, 4-7 tick up to 604,800, 8-11 value, rest zero"
 abbrev pub meterParts : List Part
 meterParts = field 1 ∷ field 1 ∷ field 2 ∷ field 4 ∷ field 4 ∷ blank 20 ∷ []
 
