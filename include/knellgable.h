@@ -34,7 +34,8 @@
  *   10  plan bytes don't stand for the order (judging, drawing and a log)
  *   11  no such dose (drawing and a log)
  *   12  tick over 604,800, or pen already at or past 604,800 (drawing)
- *   13  log length no multiple of 32, or over 131,072; a record's kind, form, bay, tick or value isn't as above, or a byte that must be zero isn't
+ *   13  log length no multiple of 32, or over 131,072; a record's kind, form, tick or value isn't as above, its bay isn't the dose's, or a byte
+ *       that must be zero isn't
  *   14  a tick of the log is not above the one before; only where no record is 13
  * place is the record's index for 3, 4 and 5, that of the first D which overlaps an earlier one for 8, that of the first such record of the log
  * for 13 (0 for its length) and 14, else 0. With 9 come the doses of the first class as a set (bit i for dose i), their weight W, which is
