@@ -20,9 +20,9 @@ STYLES = {name: Path(__file__).with_name(f"{name}.css").read_text("utf-8") for n
 LEAD = """<p><b>Each gram on a line has a fan behind it.</b> A line rises only above a bar, and the number in the bar is
 the fan that feeds it. Hatched: the dose waits, because every fan runs at its rate or faster. Grey: outside its window.
 Strong bars run fast, pale ones slowly.</p>"""
-METERED = """<p><b>Dashed: what was metered,</b> with a dot at each reading. In each run of known stretches it starts at
-the drawn amount, so that the two can be compared, and rises at each reading by what was metered since the one before.
-Where a rule stands below, the stretch is unknown, and nothing is drawn.</p>\n"""
+METERED = """<p><b>Dashed: what was metered,</b> with a dot at each reading that bounds a known stretch. In each run of
+known stretches it starts at the drawn amount, so that the two can be compared, and rises at each reading by what was
+metered since the one before. Where a rule stands below, the stretch is unknown, and nothing is drawn.</p>\n"""
 PROVED = """<footer><b>Proved</b> are the verdict, the classes with their grams and fan-seconds, every slot, every
 point of a line and every figure of a log: they are answers of the proved library, and the page is not written where its
 bars and lines don't agree with them. <b>Not proved but tested</b> are the words, the drawing, times of day, sums, and

@@ -36,7 +36,7 @@ int main(int count, char **words)
         [64] = 0x4D, [66] = 1, [68] = 3,
     };
     knellgable_laid laid = knellgable_log(order, order_bytes, plan, plan_bytes, 0, log, sizeof log);
-    printf("log: answer %u, metered %llu/1024 grams, risen %llu/1024, unknown %u seconds\n", laid.number, (unsigned long long)laid.metered,
+    printf("log: answer %u, metered %llu/1024 grams, risen %llu/1024, seconds unknown %u\n", laid.number, (unsigned long long)laid.metered,
         (unsigned long long)laid.risen, laid.unknown);
     return 0;
 }

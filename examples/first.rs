@@ -120,5 +120,5 @@ fn main() {
 
     let log = [reading(0, 1, 4_294_967_290), reading(2, 1, 4), reading(3, 0, 0)].concat();
     let Laid { number, metered, risen, unknown, .. } = desk.log(0, &log);
-    println!("log: answer {number}, metered {metered}/1024 grams, risen {risen}/1024, unknown {unknown} seconds");
+    println!("log: answer {number}, metered {metered}/1024 grams, risen {risen}/1024, seconds unknown {unknown}");
 }

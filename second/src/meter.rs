@@ -28,7 +28,7 @@ fn some_flow(r: &mut Random) -> u32 {
 
 /// Bits that are no flow: below the least normal number, below 1/1024, beside a multiple, above 1,000, below zero, infinite, quiet and
 /// signalling; and any bits.
-fn no_flow(r: &mut Random) -> u32 {
+fn odd_flow(r: &mut Random) -> u32 {
     let (digits, sign) = (r.range(0, ONE - 1), r.pick(&[0, MINUS]));
     match r.below(11) {
         0 => sign + r.range(1, ONE - 1),
@@ -117,7 +117,7 @@ pub fn spoil(log: &mut Vec<u8>, r: &mut Random) {
         }
         6..=8 => {
             log[at + 1] = FLOW as u8;
-            put(&mut log[at..], 8, 4, no_flow(r));
+            put(&mut log[at..], 8, 4, odd_flow(r));
         }
         9 => {
             let tick = field(log, 4, 4).saturating_sub(r.range(0, 1));
