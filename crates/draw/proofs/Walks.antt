@@ -8,6 +8,7 @@ use native.Mathlib.Omega.{arith}
 use borrow.Author.Tests.{eqb-true}
 use lib.Dec.{eqb, leb, ltb}
 use lib.ListN.{length}
+use Rattle.model.specs.Limits.{mostFanTime, mostGrams}
 use Rattle.model.specs.Sets.{on}
 use Rattle.model.specs.Lists.{total}
 use Rattle.model.specs.Records.{pick, read, refused, recordSize, classKind, slotKind, blankAt, classParts, slotParts, recordAt, readFrom, readAll}
@@ -120,7 +121,7 @@ module _ {b : List ℕ} {d : ℕ} (h : Drawable b d) (t : ℕ) where
         go false e = omega (arith, over-other d (unitsStep t) 0 b k m l (sym e))
 
     -- no sum of units is more than a dose may have
-    pub units-fit : 0 < m → sum + on (ownSlot b k d) (slotUnits (slotIn b k) t) ≤ 4838400000000
+    pub units-fit : 0 < m → sum + on (ownSlot b k d) (slotUnits (slotIn b k) t) ≤ mostGrams * mostFanTime
     units-fit l = omega (arith, units-again l, units-all, ap (λ (slots : List Slot). unitsBefore slots d t) (slots-known b d h), h .units-most t, h .time-most)
 
     pub units-end : m ≡ 0 → sum ≡ unitsBefore (slotsRead (planRecords b)) d t

@@ -16,9 +16,9 @@ use steps::smaller;
 use steps::wide;
 ghost use mathlib.Core.Path.{_≡_};
 ghost use mathlib.Core.Bool.{_&&_};
-ghost use Prim.Native.Nat.{_+_, _-_, _/_, _<_, _≤_, min};
+ghost use Prim.Native.Nat.{_+_, _*_, _-_, _/_, _<_, _≤_, min};
 ghost use lib.ListN.{length};
-ghost use Rattle.model.specs.Limits.{mostDoses, mostGrams, week};
+ghost use Rattle.model.specs.Limits.{mostDoses, mostFanTime, mostGrams, week};
 ghost use Rattle.model.specs.Sets.{on};
 ghost use Rattle.model.specs.Records.{recordSize};
 ghost use Rattle.model.specs.Plans.{slotsRead, planRecords};
@@ -93,15 +93,15 @@ fn covers(s: Slot, tick: u32) -> bool
     both(starts(s) <= now, now < ends(s))
 }
 
-// "units of the dose's slots before t", in record k
-fn units_at(plan: &[u8], k: usize, dose: usize, tick: u32) -> u64
-    requires { ⌜ k < length (now plan) / recordSize ⌝ }
-    ensures { λ u. ⌜ u ≡ on (ownSlot (now (plan .entry)) k dose) (slotUnits (slotIn (now (plan .entry)) k) tick) ⌝ }
+// "units of the dose's slots before t": those of record k and of the records that `sum` is of.
+fn units_with(plan: &[u8], k: usize, dose: usize, tick: u32, sum: u64) -> u64
+    requires { ⌜ (k < length (now plan) / recordSize) × (sum + on (ownSlot (now plan) k dose) (slotUnits (slotIn (now plan) k) tick) ≤ mostGrams * mostFanTime) ⌝ }
+    ensures { λ u. ⌜ u ≡ sum + on (ownSlot (now (plan .entry)) k dose) (slotUnits (slotIn (now (plan .entry)) k) tick) ⌝ }
 {
     if !own_slot(plan, k, dose) {
-        return 0;
+        return sum;
     }
-    units_in(slot_at(plan, k), tick)
+    sum + units_in(slot_at(plan, k), tick)
 }
 
 // Whether record k is a slot of the dose that covers the instant.
@@ -124,8 +124,7 @@ fn units_before(plan: &[u8], dose: usize, tick: u32) -> u64
     let mut sum = 0;
     let mut k = 0;
     while k < n {
-        let u = units_at(plan, k, dose, tick);
-        sum += u;
+        sum = units_with(plan, k, dose, tick, sum);
         k += 1;
     }
     sum

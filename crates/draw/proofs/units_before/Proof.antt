@@ -23,14 +23,11 @@ record-count-requires c κs = search needs
 loop-holds : tie.Need-loop-holds Inv-loop μ-loop
 loop-holds c = (omega arith, c .record-count .ensures, rw (sub-zero, c .record-count .ensures) (omega arith))
 
-units-at-requires : tie.Need-units-at-requires Inv-loop μ-loop
-units-at-requires c κs = omega arith
-
-add-sum : tie.Need-add-sum Inv-loop μ-loop
-add-sum c =
-    let turn = c .before .before in
+units-with-requires : tie.Need-units-with-requires Inv-loop μ-loop
+units-with-requires c κs =
+    let turn = c .before in
     let start = turn .before .before .before in
-    omega (arith, c .units-at .ensures, units-fit (start .pre) (start .args .tick) _ _ (turn .loop .sum) (turn .loop .inv .2) (omega arith))
+    (omega arith, units-fit (start .pre) (start .args .tick) _ _ (turn .loop .sum) (turn .loop .inv .2) (omega arith))
 
 add-k : tie.Need-add-k Inv-loop μ-loop
 add-k c = omega arith
@@ -45,7 +42,7 @@ loop-again c =
     let start = counted .before .before in
     let n = counted .record-count .result in
     let fewer : n - (turn .loop .k + 1) ≡ n - turn .loop .k - 1 = omega arith in
-    (omega arith, turn .loop .inv .1, rw (fewer, c .units-at .ensures) (units-again (start .pre) _ _ _ (turn .loop .sum) (turn .loop .inv .2) (omega arith)))
+    (omega arith, turn .loop .inv .1, rw (fewer, c .units-with .ensures) (units-again (start .pre) _ _ _ (turn .loop .sum) (turn .loop .inv .2) (omega arith)))
 
 returns : tie.Need-returns Inv-loop μ-loop
 returns c =
@@ -61,8 +58,7 @@ units-before-spec =
     μ-loop
     record-count-requires
     loop-holds
-    units-at-requires
-    add-sum
+    units-with-requires
     add-k
     loop-less
     loop-again
