@@ -61,6 +61,17 @@ impl House {
         plan_bytes(&self.classes, &self.slots(chance))
     }
 
+    /// The plan's shares, added up from its slots, laid again: the same bytes.
+    pub fn by_wrap_around(&self, slots: &[Slot], plan: &[u8]) -> bool {
+        let (n, m) = (self.order.doses.len(), self.spans.count());
+        let mut shares = vec![vec![vec![0u64; n]; m]; self.classes.len()];
+        for s in slots {
+            let j = self.spans.at(s.start.0).expect("a slot of a plan that stands lies in an interval");
+            shares[s.class as usize - 1][j][s.dose as usize] += s.to() - s.from();
+        }
+        plan_bytes(&self.classes, &wrap(&self.spans, &self.classes, &shares)) == plan
+    }
+
     pub fn stands(&self, plan: &[u8]) -> Result<Vec<Slot>, &'static str> {
         stands(&self.order, &self.spans, &self.classes, plan)
     }

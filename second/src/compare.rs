@@ -2,8 +2,9 @@
 
 use crate::answers::{accept, not_drawn, not_laid, planned, refusal, refused, House, PLAN_BUFFER};
 use crate::demand3::sentences;
-use crate::layout::{plan_bytes, wrap, Slot};
+use crate::layout::Slot;
 use crate::library::{Drawn, Judged, Laid, Peer, Planned};
+use crate::measure::Measure;
 use crate::orders::{RECORD, WEEK};
 use crate::random::Random;
 use crate::tally::Tally;
@@ -16,22 +17,6 @@ pub struct Difference {
     pub plan: Vec<u8>,
     pub log: Vec<u8>,
 }
-
-/// How much of everything a case does.
-#[derive(Clone, Copy)]
-pub struct Measure {
-    /// Whether short plans are damaged at every byte.
-    pub every: bool,
-    /// Other plans are damaged at this many bytes, and in this many whole records.
-    pub bytes: usize,
-    pub records: usize,
-    pub points: usize,
-    pub moments: u32,
-    pub logs: usize,
-}
-
-pub const USUAL: Measure = Measure { every: true, bytes: 64, records: 20, points: 24, moments: 40, logs: 16 };
-pub const LITTLE: Measure = Measure { every: false, bytes: 6, records: 4, points: 4, moments: 2, logs: 2 };
 
 /// Once in so many accepted orders a log of about 4,096 records is laid.
 const LONG: u64 = 8;
@@ -83,7 +68,7 @@ impl Case<'_> {
         let (Ok(house), true) = (own, answer.number == 0) else { return Ok(None) };
         match house.stands(&plan) {
             Err(clause) => self.differ(format!("the planner's plan does not stand: {clause}"), &plan),
-            Ok(slots) if !by_wrap_around(house, &slots, &plan) => self.differ("a plan not laid by wrap-around".into(), &plan),
+            Ok(slots) if !house.by_wrap_around(&slots, &plan) => self.differ("a plan not laid by wrap-around".into(), &plan),
             Ok(_) => Ok(Some(plan)),
         }
     }
@@ -314,17 +299,6 @@ impl Case<'_> {
         }
         self.damaged(&house, &plans[any])
     }
-}
-
-/// The plan's shares, added up from its slots, laid again: the same bytes.
-fn by_wrap_around(house: &House, slots: &[Slot], plan: &[u8]) -> bool {
-    let (n, m) = (house.order.doses.len(), house.spans.count());
-    let mut shares = vec![vec![vec![0u64; n]; m]; house.classes.len()];
-    for s in slots {
-        let j = house.spans.at(s.start.0).expect("a slot of a plan that stands lies in an interval");
-        shares[s.class as usize - 1][j][s.dose as usize] += s.to() - s.from();
-    }
-    plan_bytes(&house.classes, &wrap(&house.spans, &house.classes, &shares)) == plan
 }
 
 /// The order of a case: document 01's examples and the samples first, then by chance.

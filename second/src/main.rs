@@ -21,10 +21,13 @@ mod layout;
 #[allow(unsafe_code)]
 mod library;
 mod line;
+#[cfg(feature = "errors")]
+mod line_slips;
 mod log;
 #[cfg(feature = "errors")]
 mod log_slips;
 mod machine;
+mod measure;
 mod meter;
 mod near;
 mod orders;
@@ -91,7 +94,7 @@ fn main() -> ExitCode {
         Some("self") => selftest::run(number(&args, 1, 2_000), number(&args, 2, 1)),
         Some("cases") => checks::run(&PEER),
         Some("compare") => {
-            let measure = if args.get(5).is_some_and(|word| word == "little") { compare::LITTLE } else { compare::USUAL };
+            let measure = if args.get(5).is_some_and(|word| word == "little") { measure::LITTLE } else { measure::USUAL };
             runs::run(&PEER, number(&args, 1, 1_000), number(&args, 2, 1), number(&args, 4, 0), number(&args, 3, 1), measure)
         }
         #[cfg(feature = "errors")]

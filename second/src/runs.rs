@@ -1,8 +1,9 @@
 //! Many cases on some threads, with a progress line; failing cases become files.
 
-use crate::compare::{case, order_of, Difference, Measure};
+use crate::compare::{case, order_of, Difference};
 use crate::library::Peer;
 use crate::machine::today;
+use crate::measure::Measure;
 use crate::random::Random;
 use crate::tally::Tally;
 use std::io::Write;

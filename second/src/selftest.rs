@@ -3,11 +3,11 @@
 use crate::answers::{accept, House, OWN};
 use crate::checks;
 use crate::classes::{by_flow, by_subsets};
-use crate::compare::LITTLE;
 use crate::demand3::sentences;
 use crate::intervals::Intervals;
 use crate::layout::{plan_bytes, Slot};
 use crate::log::{flow, flow_bits, TOP_FLOW};
+use crate::measure::LITTLE;
 use crate::orders::{write, Order, RECORD};
 use crate::random::Random;
 use crate::runs;

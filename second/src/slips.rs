@@ -2,12 +2,12 @@
 
 use crate::answers::{drawn, not_drawn, not_laid, planned, refusal, refused, House, OWN, PLAN_BUFFER};
 use crate::classes::{by_flow, open_time, too_fast, weight_of, Class, FEW};
-use crate::compare::{Difference, USUAL};
+use crate::compare::Difference;
 use crate::flow::Network;
 use crate::intervals::Intervals;
 use crate::layout::{plan_bytes, wrap, Slot};
 use crate::library::{Drawn, Judged, Laid, Peer, Planned};
-use crate::line::{class_of, Point, State};
+use crate::measure::USUAL;
 use crate::orders::{read, Order, RECORD, WEEK};
 use crate::runs::guarded;
 use crate::shares::Shares;
@@ -191,30 +191,6 @@ impl Slipped {
             (TouchingMeets, Ok(slots)) if slots.windows(2).any(|w| w[0].dose == w[1].dose && w[0].end == w[1].start) => Err("total"),
             (_, own) => own,
         }
-    }
-
-    pub fn point(&self, house: &House, slots: &[Slot], dose: usize, tick: u32) -> Point {
-        let mut p = house.point(slots, dose, tick);
-        let d = house.order.doses[dose];
-        let own = slots.iter().filter(|s| s.dose as usize == dose);
-        match self.0 {
-            StraightLine => {
-                let at = u64::from(tick.clamp(d.release, d.deadline) - d.release);
-                p.amount = (u64::from(d.grams) * at / u64::from(d.deadline - d.release)) as u32;
-            }
-            RoundedSlots => {
-                let time = house.classes[class_of(&house.classes, dose)].time;
-                let part = |s: &Slot| ((u64::from(tick) * u64::from(s.weight)).clamp(s.from(), s.to()) - s.from()) / time;
-                p.amount = own.map(part).sum::<u64>() as u32;
-            }
-            DosingAtEnd if p.state == State::Idle => {
-                if let Some(s) = own.clone().find(|s| s.end == (tick, 0)) {
-                    p.state = State::Dosing(s.fan);
-                }
-            }
-            _ => {}
-        }
-        p
     }
 
     fn ask(&self, order: &[u8], plan: &[u8], dose: usize, tick: u32, late: bool) -> Drawn {
