@@ -61,8 +61,8 @@ extern "C" {
 /* States of a point. */
 #define KNELLGABLE_FINISHED 0 /* at or past the deadline */
 #define KNELLGABLE_SHUT 1     /* before the release; also with every refusal */
-#define KNELLGABLE_IDLE 2     /* inside the window, without a fan */
-#define KNELLGABLE_DOSING 3   /* fed by a fan */
+#define KNELLGABLE_IDLE 2     /* inside the window, and without a fan in the whole second from the tick on */
+#define KNELLGABLE_DOSING 3   /* fed in that second, or in a part of it */
 
 typedef struct {
     uint32_t number;
@@ -83,7 +83,7 @@ typedef struct {
     uint64_t set, weight, time;
     uint32_t amount; /* whole grams up to the tick */
     uint32_t state;  /* one of the four above */
-    uint32_t fan;    /* of Dosing, from 1; else 0 */
+    uint32_t fan;    /* of Dosing, from 1: the first to feed it in that second; else 0 */
 } knellgable_drawn;
 
 typedef struct {
@@ -108,7 +108,9 @@ knellgable_judged knellgable_judge(const uint8_t *order, size_t order_bytes, con
 
 /* Draws a dose at a tick, in any plan that stands. 0: the amount is behind the exact one by less than a gram and never ahead; over h seconds
  * it rises by less than h x rate + 1 gram, and not at all where the dose has no slot time; it is zero up to the release, and all the grams
- * from the deadline on. An Idle dose waits only while every fan runs, each at that dose's rate or above. */
+ * from the deadline on. Inside its window a dose is Dosing if a slot of it starts before tick + 1 and ends after the tick, which is exactly
+ * where its exact amount grows in that second; the fan is that of the earliest such slot. Else it is Idle, and gains nothing in that second: it
+ * waits, and only while every fan runs, each at that dose's rate or above. */
 knellgable_drawn knellgable_point(const uint8_t *order, size_t order_bytes, const uint8_t *plan, size_t plan_bytes, size_t dose, uint32_t tick);
 
 /* Moves a pen, a dose and a lent tick, on by one tick and draws the dose there. 12 comes of the tick before it moves. Refused: the tick stays. */

@@ -1,5 +1,5 @@
 -- A dose's state and amount by what the code holds, and what a plan that stands gives the code. Assumes nothing.
-use mathlib.Core.Path.{_≡_}
+use mathlib.Core.Path.{_∙_, _≡_, sym}
 use mathlib.Core.List.{List}
 use Prim.Native.Nat.{ℕ, _+_, _/_, _<_, _≤_}
 use native.Mathlib.Nat.{le-of-mul-le-mul-right, mul-le-mul-right}
@@ -12,25 +12,26 @@ use Rattle.model.specs.Limits.{mostGrams}
 use Rattle.model.specs.Records.{read}
 use Rattle.model.specs.Orders.{doseAt, readOrder}
 use Rattle.model.specs.Orders as orders
-use Rattle.model.specs.Classes.{classP}
+use Rattle.model.specs.Classes.{W, classP}
 use Rattle.model.specs.Intervals.{settingOf, fansPresent}
 use Rattle.model.specs.Plans.{Slot, planOf, planRecords, slotsIn, slotsRead}
 use Rattle.model.specs.Layout.{classesOf}
 use Rattle.model.specs.Stands.{Stands}
-use Rattle.model.specs.Line.{finished, shut, fedAt, stateAt, timeOf, unitsBefore}
+use Rattle.model.specs.Line.{finished, shut, fedAt, stateAt, timeOf, unitsBefore, weightOf}
 use Rattle.model.proofs.Amounts.{drawn-near}
 use Rattle.model.proofs.Orders.{Fit, read-fits}
-use Rattle.model.proofs.DrawnLine.{InClass, Line, class-of}
+use Rattle.model.proofs.DrawnLine.{InClass, Line, class-of, dose-rate, names-class}
+use Rattle.model.proofs.Lists.{All-of}
+use Rattle.model.proofs.PlanPieces.{noSlot}
 use Rattle.model.proofs.Planner.{stand-read, time-most}
-use Rattle.model.proofs.Standing.{plan-line, plan-rate}
+use Rattle.model.proofs.Standing.{plan-line}
+use Rattle.model.proofs.ValidShares.{class-weighs}
 use Rattle.order.proofs.Fields.{dose-is}
 use Rattle.order.specs.Held.{asOrder}
 use Rattle.order.specs.declared.Order.{Order}
 use Rattle.draw.specs.Drawing.{Drawable}
 
--- ---- a dose of the order
-
--- ---- its state
+-- ---- a dose's state
 
 module _ (o : Order) (slots : List Slot) (d t : ℕ) (dn : d < o .count) where
   abbrev release : ℕ
@@ -82,28 +83,35 @@ pub stands-drawable : (order : List ℕ) (o : orders.Order) → readOrder order 
 stands-drawable order o e plan st d dn = record {
   records = planOf (classesOf o (st .count) (st .sets)) (st .slots);
   are = st .records;
+  some-weight = rw (same, names .0) (class-weighs o (st .count) (st .sets) (st .classes) fit (own .class) (own .known));
+  one-weight = rw same (All-of read-slots noSlot (λ i l q.
+      names-class o fit (st .count) (st .sets) (st .classes) read-slots (stand-read st) d dn own i l q .0 ∙ sym (names .0)));
   some-time = rw same (line .some-time);
-  time-most = rw (same, rate) (time-most o fit (st .count) (st .sets) (own .class));
+  time-most = rw (same, names .1) (time-most o fit (st .count) (st .sets) (own .class));
   units-most = λ t. rw same (omega (
     arith,
     line .up t (doseAt o d .deadline),
     line .late (t + doseAt o d .deadline) (omega arith),
     line .all-units,
-    mul-le-mul-right {m = doseAt o d .grams} {n = mostGrams} (timeOf (slotsRead (planRecords plan)) d) (fit .light d dn),
+    mul-le-mul-right {m = doseAt o d .grams} {n = mostGrams} (timeOf read-slots d) (fit .light d dn),
   ));
 }
   where
+    read-slots : List Slot
+    read-slots = slotsRead (planRecords plan)
+
     fit : Fit o
     fit = read-fits order o e
 
-    line : Line o (slotsRead (planRecords plan)) d
+    line : Line o read-slots d
     line = plan-line o plan st fit d dn
 
     own : InClass (st .count) (st .sets) d
-    own = class-of o fit (st .count) (st .sets) (st .classes) (slotsRead (planRecords plan)) (stand-read st) d dn
+    own = class-of o fit (st .count) (st .sets) (st .classes) read-slots (stand-read st) d dn
 
-    same : slotsIn (planOf (classesOf o (st .count) (st .sets)) (st .slots)) ≡ slotsRead (planRecords plan)
+    same : slotsIn (planOf (classesOf o (st .count) (st .sets)) (st .slots)) ≡ read-slots
     same = rw (st .records)
 
-    rate : timeOf (slotsRead (planRecords plan)) d ≡ classP (settingOf o) (fansPresent o) (st .sets) (own .class)
-    rate = plan-rate o plan st fit d dn (st .count) (st .sets) (st .classes) (own .class) (own .known) (own .member) .1
+    -- the W and P that its slots name are those of its class
+    names : (weightOf read-slots d ≡ W (settingOf o) (st .sets (own .class))) × (timeOf read-slots d ≡ classP (settingOf o) (fansPresent o) (st .sets) (own .class))
+    names = dose-rate o fit (st .count) (st .sets) (st .classes) read-slots (stand-read st) d dn own

@@ -1,23 +1,29 @@
--- Plan bytes record by record: what a walk over a dose's records comes to is what document 01 says of its slots. Assumes nothing.
+-- Plan bytes record by record: what a walk over a dose's records comes to is what documents 01 and 02 say of its slots. Assumes nothing.
 use mathlib.Core.Path.{_≡_, refl, sym, ap, _∙_}
 use mathlib.Core.Bool.{Bool, true, false, _&&_}
+use mathlib.Core.Logic.{inl, inr}
 use mathlib.Core.List.{List, [], _∷_}
 use Prim.Native.Nat.{ℕ, zero, suc, _+_, _*_, _-_, _/_, _%_, _<_, _≤_}
+use native.Mathlib.Nat.{mul-le-mul-right, mul-lt-mul-of-pos-right, sub-zero}
 use native.Mathlib.Numerals.{add-one}
 use native.Mathlib.Omega.{arith}
-use borrow.Author.Tests.{eqb-true}
-use lib.Dec.{eqb, leb, ltb}
+use borrow.Author.Tests.{eqb-true, le-ltb, lt-ltb}
+use lib.Dec.{eqb, ltb}
 use lib.ListN.{length}
 use Rattle.model.specs.Limits.{mostFanTime, mostGrams}
 use Rattle.model.specs.Sets.{on}
-use Rattle.model.specs.Lists.{total}
+use Rattle.model.specs.Lists.{All, none, also, total}
 use Rattle.model.specs.Records.{pick, read, refused, recordSize, classKind, slotKind, blankAt, classParts, slotParts, recordAt, readFrom, readAll}
 use Rattle.model.specs.Plans.{Slot, PlanRecord, classRecord, slotRecord, classOf, slotOf, planRecordOf, planRecords, slotsIn, slotsRead}
-use Rattle.model.specs.Stands.{starts, ends}
-use Rattle.model.specs.Line.{State, dosing, idle, unitsBefore, timeOf, fedAt}
+use Rattle.model.specs.Stands.{starts}
+use Rattle.model.specs.Line.{unfed, fedBy, unitsBefore, timeOf, feeds, startsBefore, earlier, earliest, stateBy, fedAt}
+use Rattle.model.specs.Line as line
+use Rattle.model.proofs.Fractions.{compare≤}
 use Rattle.model.proofs.Orders.{no-refusal, passed, went-on}
 use Rattle.records.specs.Plan.{kindAt, slotIn}
-use Rattle.draw.specs.Drawing.{ownSlot, slotUnits, covering, Drawable}
+use Rattle.draw.specs.Drawing.{ownSlot, slotUnits, keptOf, earlierKept, fedFrom, stateKept, Drawable}
+use Rattle.draw.specs.declared.Kept.{Kept}
+use Rattle.draw.specs.declared.Kept.the-variants.{Unfed, By}
 use Rattle.draw.proofs.Points.{slots-known}
 
 -- ---- a dose's slots, one after the other
@@ -159,56 +165,85 @@ module _ {b : List ℕ} {d : ℕ} (h : Drawable b d) (k m : ℕ) (inv : timeLeft
   unfolding timeLeft
   time-end e = over-none d timeStep 0 b k m e ∙ inv ∙ time-all
 
--- ---- the first slot of a dose that covers an instant
+-- ---- the earliest slot of a dose that feeds a second
 
-abbrev fedStep : ℕ → Slot → State → State
-fedStep t s a = pick (covering s t) (dosing (s .fan)) a
+-- what is kept by m records from record k on
+unfoldable pub fedLeft : List ℕ → ℕ → ℕ → ℕ → ℕ → Kept
+fedLeft b d t k m = over d (fedFrom t) Unfed b k m
 
--- the state by m records from record k on
-unfoldable pub fedLeft : List ℕ → ℕ → ℕ → ℕ → ℕ → State
-fedLeft b d t k m = over d (fedStep t) idle b k m
+-- numbers compare as their products with a third do
+scaled : (a b : ℕ) {x y w : ℕ} → 0 < w → x ≡ w → y ≡ w → ltb a b ≡ ltb (a * x) (b * y)
+scaled a b {w = w} l e g = rw (e, g) (elim (compare≤ b a) [
+  | inl h ↦ le-ltb a b h ∙ sym (le-ltb (a * w) (b * w) (mul-le-mul-right w h))
+  | inr h ↦ lt-ltb a b h ∙ sym (lt-ltb (a * w) (b * w) (mul-lt-mul-of-pos-right h l))
+])
 
-fed-along : (slots : List Slot) (d t : ℕ) → along d (fedStep t) idle slots ≡ fedAt slots d t
-unfolding along fedAt covering
-fed-along [] d t = refl
-fed-along (s ∷ slots) d t = go (eqb d (s .dose)) (fed-along slots d t)
-  where
-    go : (own : Bool) {a r : State} → a ≡ r
-        → pick own (fedStep t s a) a ≡ pick (own && leb (starts s) (t * s .weight) && ltb (t * s .weight) (ends s)) (dosing (s .fan)) r
-    go true e = ap (fedStep t s) e
-    go false e = e
+-- a slot that feeds names the W w
+data Names (w : ℕ) : line.Feeding → Type 0 where
+  nobody : Names w unfed
+  named : {s : Slot} → s .weight ≡ w → Names w (fedBy s)
 
-both-on : (x y : Bool) → true ≡ x && y → (true ≡ x) × (true ≡ y)
-both-on true y e = (refl, e)
-both-on false y e = absurd (let z : _≡_ {A = ℕ} 0 1 = cc in omega arith)
-
-module _ {b : List ℕ} {d : ℕ} (h : Drawable b d) (t k m : ℕ) (inv : fedLeft b d t k m ≡ fedLeft b d t 0 (length b / recordSize)) where
-  -- the state by the records behind record k
-  abbrev later : State
-  later = over d (fedStep t) idle b (k + 1) (m - 1)
-
-  -- and by record k, where it is a slot of the dose
-  abbrev here : Bool → State
-  here covers = pick covers (dosing (slotIn b k .fan)) later
-
-  fed-all : fedLeft b d t 0 (length b / recordSize) ≡ fedAt (slotsRead (planRecords b)) d t
-  unfolding fedLeft
-  fed-all = over-all d (fedStep t) idle b h ∙ fed-along (slotsRead (planRecords b)) d t
-
-  pub fed-found : 0 < m → true ≡ ownSlot b k d && covering (slotIn b k) t → dosing (slotIn b k .fan) ≡ fedAt (slotsRead (planRecords b)) d t
-  unfolding fedLeft
-  fed-found l e =
-      let both = both-on (ownSlot b k d) (covering (slotIn b k) t) e in
-      ap here (both .1) ∙ over-own d (fedStep t) idle b k m l (both .0) ∙ inv ∙ fed-all
-
-  pub fed-again : 0 < m → false ≡ ownSlot b k d && covering (slotIn b k) t → fedLeft b d t (k + 1) (m - 1) ≡ fedLeft b d t 0 (length b / recordSize)
-  unfolding fedLeft
-  fed-again l e = go (ownSlot b k d) refl e
+module _ (d t w : ℕ) (some : 0 < w) where
+  -- among slots that name one W the earlier by units is the earlier, and names it too
+  by-units : (s : Slot) → s .weight ≡ w → {f : line.Feeding} → Names w f → (earlierKept s (keptOf f) ≡ keptOf (earlier s f)) × Names w (earlier s f)
+  unfolding earlierKept keptOf earlier startsBefore
+  by-units s e nobody = (refl, named e)
+  by-units s e (named {s = u} g) = (
+    rw (scaled (starts u) (starts s) some e g) (kept (ltb (starts u * s .weight) (starts s * u .weight))),
+    both (ltb (starts u * s .weight) (starts s * u .weight)),
+  )
     where
-      go : (own : Bool) → ownSlot b k d ≡ own → false ≡ own && covering (slotIn b k) t → later ≡ over d (fedStep t) idle b 0 (length b / recordSize)
-      go true p q = ap here q ∙ over-own d (fedStep t) idle b k m l (sym p) ∙ inv
-      go false p q = over-other d (fedStep t) idle b k m l (sym p) ∙ inv
+      kept : (b : Bool) → pick b (By (u .fan) (starts u)) (By (s .fan) (starts s)) ≡ By (pick b u s .fan) (starts (pick b u s))
+      kept true = refl
+      kept false = refl
 
-  pub fed-end : m ≡ 0 → idle ≡ fedAt (slotsRead (planRecords b)) d t
-  unfolding fedLeft
-  fed-end e = over-none d (fedStep t) idle b k m e ∙ inv ∙ fed-all
+      both : (b : Bool) → Names w (fedBy (pick b u s))
+      both true = named g
+      both false = named e
+
+  -- so that what is kept along a dose's slots is that of the earliest
+  kept-along : {slots : List Slot} → All (λ s. s .dose ≡ d → s .weight ≡ w) slots
+      → (along d (fedFrom t) Unfed slots ≡ keptOf (earliest slots d t)) × Names w (earliest slots d t)
+  unfolding along earliest fedFrom keptOf
+  kept-along none = (refl, nobody)
+  kept-along (also {a = s} {l = slots} own rest) = go (eqb d (s .dose)) (feeds s t) refl (kept-along rest)
+    where
+      rest-of : line.Feeding
+      rest-of = earliest slots d t
+
+      go : (mine fed : Bool) → eqb d (s .dose) ≡ mine → {a : Kept} → (a ≡ keptOf rest-of) × Names w rest-of
+          → (pick mine (pick fed (earlierKept s a) a) a ≡ keptOf (pick (mine && fed) (earlier s rest-of) rest-of))
+          × Names w (pick (mine && fed) (earlier s rest-of) rest-of)
+      go true true e h =
+          let r = by-units s (own (sym (eqb-true d (s .dose) e))) (h .1) in
+          (ap (earlierKept s) (h .0) ∙ r .0, r .1)
+      go true false e h = h
+      go false fed e h = h
+
+-- by no record
+pub fed-none : (b : List ℕ) (d t k m : ℕ) → m ≡ 0 → Unfed ≡ fedLeft b d t k m
+unfolding fedLeft
+fed-none b d t = over-none d (fedFrom t) Unfed b
+
+-- by one record more, the one in front of those that were passed
+pub fed-back : (b : List ℕ) (d t k n : ℕ) → 0 < k → k ≤ n → {f : Kept} → f ≡ fedLeft b d t k (n - k)
+    → pick (ownSlot b (k - 1) d) (fedFrom t (slotIn b (k - 1)) f) f ≡ fedLeft b d t (k - 1) (n - (k - 1))
+unfolding fedLeft
+fed-back b d t k n l h e =
+    let here : k - 1 + 1 ≡ k = omega arith in
+    let fewer : n - (k - 1) - 1 ≡ n - k = omega arith in
+    rw e (sym (rw (here, fewer) at (over-first d (fedFrom t) Unfed b (k - 1) (n - (k - 1)) (omega arith))))
+
+state-of-kept : (f : line.Feeding) → stateKept (keptOf f) ≡ stateBy f
+unfolding stateKept keptOf stateBy
+state-of-kept unfed = refl
+state-of-kept (fedBy s) = refl
+
+-- by all of them
+pub fed-all : {b : List ℕ} {d : ℕ} → Drawable b d → (t k : ℕ) → k ≡ 0 → {f : Kept} → f ≡ fedLeft b d t k (length b / recordSize - k)
+    → stateKept f ≡ fedAt (slotsRead (planRecords b)) d t
+unfolding fedLeft fedAt
+fed-all {b} {d} h t k z e =
+    let kept = kept-along d t _ (h .some-weight) (h .one-weight) .0 in
+    ap stateKept (rw (z, sub-zero) at e ∙ over-all d (fedFrom t) Unfed b h ∙ (rw (← slots-known b d h) at kept))
+    ∙ state-of-kept (earliest (slotsRead (planRecords b)) d t)

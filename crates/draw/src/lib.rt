@@ -1,10 +1,11 @@
-// A dose's point at a tick (document 01, "The drawn line"), and the pen over it.
+// A dose's point at a tick (document 01, "The drawn line"; Dosing by the whole second, document 02, C-12), and the pen over it.
 use judge::Judged;
 use order::Order;
 use records::SLOT_KIND;
 use records::Slot;
 use records::ends;
 use records::kind_at;
+use records::moment;
 use records::record_count;
 use records::slot_at;
 use records::starts;
@@ -15,20 +16,20 @@ use steps::product;
 use steps::smaller;
 use steps::wide;
 ghost use mathlib.Core.Path.{_≡_};
-ghost use mathlib.Core.Bool.{_&&_};
 ghost use Prim.Native.Nat.{_+_, _*_, _-_, _/_, _<_, _≤_, min};
 ghost use lib.ListN.{length};
 ghost use Rattle.model.specs.Limits.{mostDoses, mostFanTime, mostGrams, week};
 ghost use Rattle.model.specs.Sets.{on};
-ghost use Rattle.model.specs.Records.{recordSize};
+ghost use Rattle.model.specs.Records.{pick, recordSize};
 ghost use Rattle.model.specs.Plans.{slotsRead, planRecords};
 ghost use Rattle.model.specs.Line.{unitsBefore, timeOf, drawn, fedAt, stateAt, pointAt};
+ghost use Rattle.model.specs.Line as line;
 ghost use Rattle.model.specs.Answers.{noPoint, Draws, Moves};
 ghost use Rattle.records.specs.Held.{asSlot};
 ghost use Rattle.records.specs.Plan.{slotIn};
 ghost use Rattle.order.specs.Held.{asOrder};
 ghost use Rattle.judge.specs.Verdict.{asAnswer};
-ghost use Rattle.draw.specs.Drawing.{asState, asPoint, asDrawn, answerOf, asPen, penAt, ownSlot, slotUnits, covering, Drawable, Sound};
+ghost use Rattle.draw.specs.Drawing.{asState, asPoint, asDrawn, answerOf, asPen, penAt, ownSlot, slotUnits, earlierKept, fedFrom, stateKept, Drawable, Sound};
 
 // "one of four states"; "Dosing carries the fan number"
 pub enum State {
@@ -36,6 +37,12 @@ pub enum State {
     Shut,
     Idle,
     Dosing(u32),
+}
+
+// What is kept of the slot by which a dose is fed in a second, if there is one: its fan, and its start in units of 1/W.
+enum Kept {
+    Unfed,
+    By { fan: u32, start: u64 },
 }
 
 // "A point is an amount together with one of four states"
@@ -85,12 +92,33 @@ fn units_in(s: Slot, tick: u32) -> u64
     less(smaller(ends(s), product(tick, s.weight)), starts(s))
 }
 
-// "a slot covers the instant t (start at or before t, end after)"
-fn covers(s: Slot, tick: u32) -> bool
-    ensures { λ t. ⌜ t ≡ covering (asSlot s) tick ⌝ }
+// "starts before t+1 and ends after t": second t + 1 starts a whole W of parts behind second t.
+fn feeds(s: Slot, tick: u32) -> bool
+    ensures { λ t. ⌜ t ≡ line.feeds (asSlot s) tick ⌝ }
 {
     let now = product(tick, s.weight);
-    both(starts(s) <= now, now < ends(s))
+    let next = moment(tick, s.weight, s.weight);
+    both(starts(s) < next, now < ends(s))
+}
+
+// Of a slot and what is kept of one behind it the earlier: slots of one dose name one W, so that their starts are compared as units.
+fn earlier(s: Slot, later: Kept) -> Kept
+    ensures { λ f. ⌜ f ≡ earlierKept (asSlot s) later ⌝ }
+{
+    let here = starts(s);
+    let Kept::By { fan, start } = later else {
+        return Kept::By {
+            fan: s.fan,
+            start: here,
+        };
+    };
+    if start < here {
+        return Kept::By { fan, start };
+    }
+    Kept::By {
+        fan: s.fan,
+        start: here,
+    }
 }
 
 // "units of the dose's slots before t": those of record k and of the records that `sum` is of.
@@ -104,15 +132,29 @@ fn units_with(plan: &[u8], k: usize, dose: usize, tick: u32, sum: u64) -> u64
     sum + units_in(slot_at(plan, k), tick)
 }
 
-// Whether record k is a slot of the dose that covers the instant.
-fn feeds(plan: &[u8], k: usize, dose: usize, tick: u32) -> bool
+// What feeds the dose by record k and those behind it.
+fn fed_from(plan: &[u8], k: usize, dose: usize, tick: u32, later: Kept) -> Kept
     requires { ⌜ k < length (now plan) / recordSize ⌝ }
-    ensures { λ t. ⌜ t ≡ (ownSlot (now (plan .entry)) k dose && covering (slotIn (now (plan .entry)) k) tick) ⌝ }
+    ensures { λ f. ⌜ f ≡ pick (ownSlot (now (plan .entry)) k dose) (fedFrom tick (slotIn (now (plan .entry)) k) later) later ⌝ }
 {
     if !own_slot(plan, k, dose) {
-        return false;
+        return later;
     }
-    covers(slot_at(plan, k), tick)
+    let s = slot_at(plan, k);
+    if !feeds(s, tick) {
+        return later;
+    }
+    earlier(s, later)
+}
+
+// "Dosing .. the fan is that of the earliest such slot", "else Idle".
+fn state_by(kept: Kept) -> State
+    ensures { λ s. ⌜ asState s ≡ stateKept kept ⌝ }
+{
+    match kept {
+        Kept::Unfed => State::Idle,
+        Kept::By { fan, start: _ } => State::Dosing(fan),
+    }
 }
 
 // "units of the dose's slots before t"
@@ -147,21 +189,18 @@ pub fn time_of(plan: &[u8], dose: usize) -> u32
     0
 }
 
-// "Dosing if a slot covers the instant t .., else Idle"
+// "the earliest such slot": from the last record back, as the definition goes, the earlier of a slot and of those behind it.
 fn fed_at(plan: &[u8], dose: usize, tick: u32) -> State
     requires { ⌜ Drawable (now plan) dose ⌝ }
     ensures { λ s. ⌜ asState s ≡ fedAt (slotsRead (planRecords (now (plan .entry)))) dose tick ⌝ }
 {
-    let n = record_count(plan);
-    let mut k = 0;
-    while k < n {
-        if feeds(plan, k, dose, tick) {
-            let s = slot_at(plan, k);
-            return State::Dosing(s.fan);
-        }
-        k += 1;
+    let mut k = record_count(plan);
+    let mut kept = Kept::Unfed;
+    while 0 < k {
+        k -= 1;
+        kept = fed_from(plan, k, dose, tick, kept);
     }
-    State::Idle
+    state_by(kept)
 }
 
 // "Finished if t is at or past the deadline, else Shut before the release, else Dosing .., else Idle"

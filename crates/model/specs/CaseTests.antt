@@ -15,7 +15,7 @@ use Rattle.model.specs.Shares.{need, room, holds, got, given}
 use Rattle.model.specs.Lists.{gather, total}
 use Rattle.model.specs.Plans.{Class, Slot}
 use Rattle.model.specs.Layout.{cut, line, pieceSlot, laneSlots, intervalSlots, tableSlots, slotsOf, classesOf}
-use Rattle.model.specs.Line.{State, finished, shut, idle, dosing, unitsBefore, timeOf, drawn, fedAt, stateAt, Point, pointAt}
+use Rattle.model.specs.Line.{State, finished, shut, idle, dosing, unitsBefore, timeOf, drawn, feeds, startsBefore, earlier, earliest, stateBy, fedAt, stateAt, Point, pointAt}
 use Rattle.model.specs.Answers.{Answer, refusal, done, aboveTop, tooFast}
 use Rattle.model.specs.Cases.{Case, Drawing, listed, caseSets, slot, cases}
 
@@ -202,7 +202,7 @@ caseTest c = readingTest c (readOrder (c .order))
 
 -- every row passes
 pub cases-pass : T (allIn caseTest cases)
-unfolding allBelow allIn everySet insideTest someTest givesWay nextTest roomTest fullTest metTest validTest most forcedTest sameList sameClass sameSlot sameState samePoint sameAnswer emptyList nothingTest classTest sharesTest pointTest fastTest doneTest slowTest recordsTest planTest readingTest caseTest sum weight numberAt numberBytes fieldsAt blankAt recordBytes readFrom entryOf fansIn dosesIn clashesAny noClash restOf orderOf readOrder openFans P free remaining insert instants gather total cut line pieceSlot laneSlots intervalSlots tableSlots unitsBefore timeOf drawn fedAt stateAt listed
+unfolding allBelow allIn everySet insideTest someTest givesWay nextTest roomTest fullTest metTest validTest most forcedTest sameList sameClass sameSlot sameState samePoint sameAnswer emptyList nothingTest classTest sharesTest pointTest fastTest doneTest slowTest recordsTest planTest readingTest caseTest sum weight numberAt numberBytes fieldsAt blankAt recordBytes readFrom entryOf fansIn dosesIn clashesAny noClash restOf orderOf readOrder openFans P free remaining insert instants gather total cut line pieceSlot laneSlots intervalSlots tableSlots unitsBefore timeOf drawn feeds startsBefore earlier earliest stateBy fedAt stateAt listed
 cases-pass = tt
 
 -- ---- slots that are not the planner's: P1's, with that of dose 0 cut in two at second 5

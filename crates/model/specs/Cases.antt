@@ -1,4 +1,4 @@
--- The bench examples that document 01 marks P, as one list of rows and one claim about a row.
+-- The bench examples that document 01 marks P, and those of the requests of document 02, as one list of rows and one claim about a row.
 use mathlib.Core.Path.{_≡_}
 use mathlib.Core.Bool.{false, _||_}
 use mathlib.Core.List.{List, [], _∷_, _++_}
@@ -159,7 +159,7 @@ cases =
       slots = slot 1 0 0 0 2 0 30 6 1 ∷ slot 1 1 2 0 3 0 30 6 1 ∷ slot 2 1 0 0 1 0 30 6 1 ∷ slot 2 2 1 0 3 0 30 6 1 ∷ [];
       points = drawing 1 0 0 (dosing 2) ∷ drawing 1 1 5 idle ∷ drawing 1 2 5 (dosing 1) ∷ drawing 1 3 10 finished ∷ [];
     }
-    -- P3: one fan; [0,1) 1 and [0,1) 2. "dose 0 from 0 to 1/3, dose 1 from 1/3 to 1"
+    -- P3: one fan; [0,1) 1 and [0,1) 2. "dose 0 from 0 to 1/3, dose 1 from 1/3 to 1": each is fed in second 0
     ∷ record {
       order = F 1 1000 1 ++ D 1 0 1 1 ++ D 2 0 1 2;
       answer = done;
@@ -167,7 +167,7 @@ cases =
       shares = ((1 ∷ []) ∷ (2 ∷ []) ∷ []) ∷ [];
       classes = class 1 2 3 1 ∷ [];
       slots = slot 1 0 0 0 0 1 3 1 1 ∷ slot 1 1 0 1 1 0 3 1 1 ∷ [];
-      points = drawing 0 0 0 (dosing 1) ∷ drawing 1 0 0 idle ∷ drawing 1 1 2 finished ∷ [];
+      points = drawing 0 0 0 (dosing 1) ∷ drawing 1 0 0 (dosing 1) ∷ drawing 1 1 2 finished ∷ [];
     }
     -- P4: one fan; [0,2) 4, [2,4) 4
     ∷ record {
@@ -220,4 +220,59 @@ cases =
       points = drawing 0 4 10 finished ∷ [];
     }
     ∷ refusedCase (F 1 1000 1 ++ D 1 0 4 10 ++ D 1 3 8 10) 8 2
+    -- document 02, C-12: two fans; three of [0,2) 10. A share cut by wrap-around, its later piece first in the file; slots that start, or end,
+    -- inside a second
+    ∷ record {
+      order = F 2 1000 1 ++ D 1 0 2 10 ++ D 2 0 2 10 ++ D 3 0 2 10;
+      answer = done;
+      sets = (0 ∷ 1 ∷ 2 ∷ []) ∷ [];
+      shares = ((40 ∷ []) ∷ (40 ∷ []) ∷ (40 ∷ []) ∷ []) ∷ [];
+      classes = class 1 3 30 4 ∷ [];
+      slots = slot 1 0 0 0 1 10 30 4 1 ∷ slot 1 1 1 10 2 0 30 4 1 ∷ slot 2 1 0 0 0 20 30 4 1 ∷ slot 2 2 0 20 2 0 30 4 1 ∷ [];
+      points = drawing 0 1 7 (dosing 1) ∷ drawing 1 0 0 (dosing 2) ∷ drawing 1 1 5 (dosing 1) ∷ drawing 2 0 0 (dosing 2) ∷ drawing 2 1 2 (dosing 2) ∷ [];
+    }
+    -- C-12: two fans; three of [5,6) 10. Two slots of dose 1 in one second: it starts on fan 2, though its slot on fan 1 is the first in the file
+    ∷ record {
+      order = F 2 1000 1 ++ D 1 5 6 10 ++ D 2 5 6 10 ++ D 3 5 6 10;
+      answer = done;
+      sets = (0 ∷ 1 ∷ 2 ∷ []) ∷ [];
+      shares = ((20 ∷ []) ∷ (20 ∷ []) ∷ (20 ∷ []) ∷ []) ∷ [];
+      classes = class 1 3 30 2 ∷ [];
+      slots = slot 1 0 5 0 5 20 30 2 1 ∷ slot 1 1 5 20 6 0 30 2 1 ∷ slot 2 1 5 0 5 10 30 2 1 ∷ slot 2 2 5 10 6 0 30 2 1 ∷ [];
+      points = drawing 0 5 0 (dosing 1) ∷ drawing 1 4 0 shut ∷ drawing 1 5 0 (dosing 2) ∷ drawing 1 6 10 finished ∷ drawing 2 5 0 (dosing 2) ∷ [];
+    }
+    -- C-12: one fan; three of [7,8) 1. Dose 1 is fed between two seconds alone, from 7 1/3 to 7 2/3
+    ∷ record {
+      order = F 1 1000 1 ++ D 1 7 8 1 ++ D 2 7 8 1 ++ D 3 7 8 1;
+      answer = done;
+      sets = (0 ∷ 1 ∷ 2 ∷ []) ∷ [];
+      shares = ((1 ∷ []) ∷ (1 ∷ []) ∷ (1 ∷ []) ∷ []) ∷ [];
+      classes = class 1 3 3 1 ∷ [];
+      slots = slot 1 0 7 0 7 1 3 1 1 ∷ slot 1 1 7 1 7 2 3 1 1 ∷ slot 1 2 7 2 8 0 3 1 1 ∷ [];
+      points = drawing 0 7 0 (dosing 1) ∷ drawing 1 6 0 shut ∷ drawing 1 7 0 (dosing 1) ∷ drawing 1 8 1 finished ∷ drawing 2 7 0 (dosing 1) ∷ [];
+    }
+    -- C-12: two fans; three of [5,8) 10, P2 from second 5 on. At 6 dose 1 has a slot that ends there and one that starts at 7: neither feeds that
+    -- second. At its release dose 2 waits, and dose 0 in the last second before its deadline
+    ∷ record {
+      order = F 2 1000 1 ++ D 1 5 8 10 ++ D 2 5 8 10 ++ D 3 5 8 10;
+      answer = done;
+      sets = (0 ∷ 1 ∷ 2 ∷ []) ∷ [];
+      shares = ((60 ∷ []) ∷ (60 ∷ []) ∷ (60 ∷ []) ∷ []) ∷ [];
+      classes = class 1 3 30 6 ∷ [];
+      slots = slot 1 0 5 0 7 0 30 6 1 ∷ slot 1 1 7 0 8 0 30 6 1 ∷ slot 2 1 5 0 6 0 30 6 1 ∷ slot 2 2 6 0 8 0 30 6 1 ∷ [];
+      points = drawing 0 5 0 (dosing 1) ∷ drawing 0 6 5 (dosing 1) ∷ drawing 0 7 10 idle ∷ drawing 0 8 10 finished
+          ∷ drawing 1 4 0 shut ∷ drawing 1 5 0 (dosing 2) ∷ drawing 1 6 5 idle ∷ drawing 1 7 5 (dosing 1) ∷ drawing 1 8 10 finished
+          ∷ drawing 2 5 0 idle ∷ drawing 2 6 0 (dosing 2) ∷ drawing 2 7 5 (dosing 2) ∷ [];
+    }
+    -- C-12: one fan; [0,10) 20, [6,10) 16. Dose 0 is fed up to 6, and from there to its deadline it has all its grams and waits
+    ∷ record {
+      order = F 1 1000 1 ++ D 1 0 10 20 ++ D 2 6 10 16;
+      answer = done;
+      sets = (1 ∷ []) ∷ (0 ∷ []) ∷ [];
+      shares = ([] ∷ (0 ∷ 64 ∷ []) ∷ []) ∷ ((120 ∷ 0 ∷ []) ∷ []) ∷ [];
+      classes = class 1 1 16 4 ∷ class 2 1 20 6 ∷ [];
+      slots = slot 1 0 0 0 6 0 20 6 2 ∷ slot 1 1 6 0 10 0 16 4 1 ∷ [];
+      points = drawing 0 0 0 (dosing 1) ∷ drawing 0 5 16 (dosing 1) ∷ drawing 0 6 20 idle ∷ drawing 0 9 20 idle ∷ drawing 0 10 20 finished
+          ∷ drawing 1 5 0 shut ∷ drawing 1 6 0 (dosing 1) ∷ drawing 1 9 12 (dosing 1) ∷ [];
+    }
     ∷ []

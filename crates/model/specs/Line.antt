@@ -1,8 +1,9 @@
--- The drawn line (document 01): units before a tick, amounts, states, and moments that are whole numbers of 1/q ticks.
+-- The drawn line (document 01; Dosing as document 02, C-12 has it): units before a tick, amounts, states, and moments that are whole numbers of
+-- 1/q ticks.
 use mathlib.Core.Path.{_≡_}
-use mathlib.Core.Bool.{_&&_}
+use mathlib.Core.Bool.{Bool, _&&_}
 use mathlib.Core.List.{List, [], _∷_}
-use Prim.Native.Nat.{ℕ, _*_, _-_, _/_, _≤_, _<_, min}
+use Prim.Native.Nat.{ℕ, _+_, _*_, _-_, _/_, _≤_, _<_, min}
 use lib.Dec.{eqb, leb, ltb}
 use lib.ListN.{length, getD}
 use Rattle.model.specs.Sets.{on}
@@ -37,11 +38,38 @@ pub data State : Type 0 where
   idle : State
   dosing : ℕ → State
 
--- "Dosing if a slot covers the instant t (start at or before t, end after), else Idle"
+-- a slot feeds the second t if it "starts before t+1 and ends after t" (document 02, C-12: "Growers read a second as the whole second"), by
+-- exact products
+unfoldable pub feeds : Slot → ℕ → Bool
+feeds s t = ltb (starts s) ((t + 1) * s .weight) && ltb (t * s .weight) (ends s)
+
+-- s starts before u does: starts/W of both, by exact products
+unfoldable pub startsBefore : Slot → Slot → Bool
+startsBefore s u = ltb (starts s * u .weight) (starts u * s .weight)
+
+-- the slot by which a dose is fed, if there is one
+pub data Feeding : Type 0 where
+  unfed : Feeding
+  fedBy : Slot → Feeding
+
+-- of a slot and another, if there is one, the earlier
+unfoldable pub earlier : Slot → Feeding → Feeding
+earlier s unfed = fedBy s
+earlier s (fedBy u) = fedBy (pick (startsBefore u s) u s)
+
+-- "the earliest such slot" of dose d: of those that feed the second t the one with the least start
+unfoldable pub earliest : List Slot → ℕ → ℕ → Feeding
+earliest [] d t = unfed
+earliest (s ∷ slots) d t = pick (eqb d (s .dose) && feeds s t) (earlier s (earliest slots d t)) (earliest slots d t)
+
+-- "Dosing .. means that some slot" feeds the second, and "the fan is that of the earliest such slot"; "else Idle"
+unfoldable pub stateBy : Feeding → State
+stateBy unfed = idle
+stateBy (fedBy s) = dosing (s .fan)
+
+-- the state of a dose inside its window
 unfoldable pub fedAt : List Slot → ℕ → ℕ → State
-fedAt [] d t = idle
-fedAt (s ∷ slots) d t =
-    pick (eqb d (s .dose) && leb (starts s) (t * s .weight) && ltb (t * s .weight) (ends s)) (dosing (s .fan)) (fedAt slots d t)
+fedAt slots d t = stateBy (earliest slots d t)
 
 -- "Finished if t is at or past the deadline, else Shut before the release, else" as above
 unfoldable pub stateAt : Order → List Slot → ℕ → ℕ → State

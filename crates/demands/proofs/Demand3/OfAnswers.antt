@@ -4,6 +4,7 @@ use mathlib.Core.Logic.{_⊎_}
 use mathlib.Core.Path.{_≡_, refl, sym, ap, _∙_}
 use mathlib.Core.List.{List}
 use Prim.Native.Nat.{ℕ, _+_, _*_, _≤_, _<_}
+use native.Mathlib.Nat.{mul-le-mul-left}
 use native.Mathlib.Omega.{arith}
 use lib.Dec.{T}
 use Rattle.model.specs.Sets.{Doses}
@@ -13,9 +14,11 @@ use Rattle.model.specs.Classes.{Classes, W, classP}
 use Rattle.model.specs.Intervals.{fansPresent, settingOf}
 use Rattle.model.specs.Plans.{Slot, planRecords, slotsRead}
 use Rattle.model.specs.Stands.{Stands, ends, starts}
-use Rattle.model.specs.Line.{HasFan, OneOf, RunsAt, dosing, drawn, finished, weightOf, idle, shut, stateAt, timeOf, unitsBefore}
+use Rattle.model.specs.Line.{HasFan, OneOf, RunsAt, drawn, idle, stateAt, timeOf, unitsBefore, weightOf}
 use Rattle.model.specs.Answers.{Accepts, Drawn, Draws, draws, no-dose, pointOf, refuses, too-late}
-use Rattle.demands.proofs.Demand3.States.{Fed, fed-by, idle-free, inside}
+use Rattle.model.proofs.Fractions.{pos-left}
+use Rattle.demands.proofs.Demand2.Standing.{slot-named}
+use Rattle.demands.proofs.Demand3.States.{InSecond, fan-feeds, idle-means}
 use Rattle.demands.proofs.Demand3 as demand
 
 -- an answer that is no refusal: the order is accepted, the plan stands, and the answer is the point
@@ -83,6 +86,10 @@ module _ (order plan : List ℕ) (d : ℕ) where
     same-order : done t x a .read-order ≡ o
     same-order = let f = done t x a .accepts .reads in cc
 
+    -- the plan stands for the order
+    pub stands : Stands o plan
+    stands = rw same-order at (done t x a .stands)
+
     -- the dose is one of the order's
     pub listed : d < settingOf o .doses
     listed = rw same-order at (done t x a .listed)
@@ -103,35 +110,26 @@ module _ (order plan : List ℕ) (d : ℕ) where
     -- the W and P of the dose's slots, its rate, are those of its class
     pub rate-of-its-class : (p : ℕ) (C : ℕ → Doses) → Classes (settingOf o) (fansPresent o) p C → (i : ℕ) → i < p → T (C i d)
         → (weightOf slots d ≡ W (settingOf o) (C i)) × (timeOf slots d ≡ classP (settingOf o) (fansPresent o) C i)
-    rate-of-its-class = demand.rate-of-its-class order o e plan (rw same-order at (done t x a .stands)) d listed
+    rate-of-its-class = demand.rate-of-its-class order o e plan stands d listed
 
     -- "Inside its window a dose is without a fan only if every fan is running, each at that dose's rate or above"
     pub waits-only-while-all-fans-run : (q m : ℕ) → 0 < q → q * doseAt o d .release ≤ m → m < q * doseAt o d .deadline → (HasFan slots q m d → ⊥)
         → (f : ℕ) → 1 ≤ f → f ≤ o .fans → RunsAt slots q m f (weightOf slots d) (timeOf slots d)
-    waits-only-while-all-fans-run = demand.waits-only-while-all-fans-run order o e plan (rw same-order at (done t x a .stands)) d listed
+    waits-only-while-all-fans-run = demand.waits-only-while-all-fans-run order o e plan stands d listed
 
-    state-is : x .point .state ≡ stateAt o slots d t
+    -- its state is the dose's
+    pub state-is : x .point .state ≡ stateAt o slots d t
     state-is = ap (λ (y : Drawn). y .point .state) (done t x a .is) ∙ ap (λ (u : Order). stateAt u slots d t) same-order
 
-    -- a dose that is drawn Idle is inside its window, and every fan is running, each at that dose's rate or above
+    -- a dose that is drawn Idle is inside its window, and at every moment of the second every fan is running, each at that dose's rate or above
     pub idle-only-while-all-fans-run : x .point .state ≡ idle
-        → (doseAt o d .release ≤ t) × (t < doseAt o d .deadline) × ((f : ℕ) → 1 ≤ f → f ≤ o .fans → RunsAt slots 1 t f (weightOf slots d) (timeOf slots d))
+        → (doseAt o d .release ≤ t) × (t < doseAt o d .deadline)
+        × ((q m : ℕ) → InSecond t q m → (f : ℕ) → 1 ≤ f → f ≤ o .fans → RunsAt slots q m f (weightOf slots d) (timeOf slots d))
     idle-only-while-all-fans-run z =
-        let s = inside d t o slots idle (λ e. differ e) (λ e. differ′ e) (sym state-is ∙ z) in
-        (s .0, s .1, waits-only-while-all-fans-run 1 t (omega arith) (omega (arith, s .0)) (omega (arith, s .1)) (idle-free d t slots (s .2)))
-      where
-        differ : finished ≡ idle → ⊥
-        differ e = let z : _≡_ {A = ℕ} 0 1 = cc in omega arith
-
-        differ′ : shut ≡ idle → ⊥
-        differ′ e = let z : _≡_ {A = ℕ} 0 1 = cc in omega arith
-
-    -- a dose that is drawn Dosing has a slot that covers the tick, on the fan that the state names
-    pub dosing-has-that-fan : (fan : ℕ) → x .point .state ≡ dosing fan → Fed slots d t fan
-    dosing-has-that-fan fan z = fed-by d t slots fan (inside d t o slots (dosing fan) (λ e. differ e) (λ e. differ′ e) (sym state-is ∙ z) .2)
-      where
-        differ : finished ≡ dosing fan → ⊥
-        differ e = let z : _≡_ {A = ℕ} 0 1 = cc in omega arith
-
-        differ′ : shut ≡ dosing fan → ⊥
-        differ′ e = let z : _≡_ {A = ℕ} 0 1 = cc in omega arith
+        let i = idle-means o slots d t (sym state-is ∙ z) in (
+          i .0,
+          i .1,
+          λ q m w. waits-only-while-all-fans-run q m (pos-left m q (t + 1) (w .high))
+              (omega (arith, mul-le-mul-left q (i .0), w .low)) (omega (arith, mul-le-mul-left q (i .1), w .high))
+              (λ h. i .2 (h .slot) (fan-feeds w h (omega (arith, slot-named o plan stands (h .slot) (h .one) .start-part)))),
+        )

@@ -1,66 +1,49 @@
--- `fed_at` meets its contract: no record passed feeds the dose at the tick, so the records left give the state that all give (Walks).
-use Prim.Native.Nat.{_+_, _-_, _/_, _≤_}
-use mathlib.Core.Path.{_≡_, sym, ap, _∙_}
-use native.Mathlib.Nat.{sub-zero}
+-- `fed_at` meets its contract: from the last record back, what is kept is that of the earliest slot among the records passed (Walks).
+use Prim.Native.Nat.{_-_, _/_, _≤_}
+use mathlib.Core.Path.{_≡_, _∙_}
 use native.Mathlib.Omega.{arith}
 use lib.ListN.{length}
 use Rattle.model.specs.Records.{recordSize}
-use Rattle.model.specs.Plans.{Slot}
-use Rattle.model.specs.Line.{dosing}
-use Rattle.draw.specs.Drawing.{asState}
-use Rattle.draw.proofs.Walks.{fedLeft, fed-found, fed-again, fed-end}
+use Rattle.draw.proofs.Walks.{fedLeft, fed-none, fed-back, fed-all}
 use borrow.Author.Needs.{needs}
 use Rattle.draw.proofs.fed_at.Statement.{statement}
 use Rattle.draw.proofs.fed_at.Tie as tie
 
 abbrev Inv-loop : tie.InvT-loop
-Inv-loop plan dose tick n k₀ k = (k ≤ n) × (n ≡ length plan / recordSize) × (fedLeft plan dose tick k (n - k) ≡ fedLeft plan dose tick 0 (length plan / recordSize))
+Inv-loop plan dose tick k₀ kept₀ k kept = (k ≤ length plan / recordSize) × (kept ≡ fedLeft plan dose tick k (length plan / recordSize - k))
 
 abbrev μ-loop : tie.MeasureT-loop
-μ-loop plan dose tick n k₀ k = n - k
+μ-loop plan dose tick k₀ kept₀ k kept = k
 
 record-count-requires : tie.Need-record-count-requires Inv-loop μ-loop
 record-count-requires c κs = search needs
 
 loop-holds : tie.Need-loop-holds Inv-loop μ-loop
-loop-holds c = (omega arith, c .record-count .ensures, rw (sub-zero, c .record-count .ensures))
+loop-holds c =
+    let counted = c .record-count .ensures in
+    (omega (arith, counted), fed-none _ _ _ _ _ (omega (arith, counted)))
 
-feeds-requires : tie.Need-feeds-requires Inv-loop μ-loop
-feeds-requires c κs = omega arith
+sub-k : tie.Need-sub-k Inv-loop μ-loop
+sub-k c = omega arith
 
-slot-at-requires : tie.Need-slot-at-requires Inv-loop μ-loop
-slot-at-requires c κs = omega arith
-
-returns : tie.Need-returns Inv-loop μ-loop
-unfolding asState
-returns c =
-    let feeding = c .before in
-    let turn = feeding .before .before .before in
-    let start = turn .before .before .before in
-    ap (λ (s : Slot). dosing (s .fan)) (c .slot-at .ensures)
-    ∙ fed-found (start .pre) _ _ _ (turn .loop .inv .2) (omega arith) (sym (feeding .if1 .taken) ∙ feeding .before .feeds .ensures)
-
-add-k : tie.Need-add-k Inv-loop μ-loop
-add-k c = omega arith
+fed-from-requires : tie.Need-fed-from-requires Inv-loop μ-loop
+fed-from-requires c κs = omega arith
 
 loop-less : tie.Need-loop-less Inv-loop μ-loop
 loop-less c = omega arith
 
 loop-again : tie.Need-loop-again Inv-loop μ-loop
 loop-again c =
-    let turn = c .before .before .before in
-    let counted = turn .before in
-    let start = counted .before .before in
-    let n = counted .record-count .result in
-    let fewer : n - (turn .loop .k + 1) ≡ n - turn .loop .k - 1 = omega arith in
-    (omega arith, turn .loop .inv .1, rw fewer (fed-again (start .pre) _ _ _ (turn .loop .inv .2) (omega arith) (sym (c .if1 .left) ∙ c .before .feeds .ensures)))
+    let turn = c .before .before in
+    (omega arith, rw (c .fed-from .ensures) (fed-back _ _ _ (turn .loop .k) _ (omega arith) (turn .loop .inv .0) (turn .loop .inv .1)))
 
-returns-2 : tie.Need-returns-2 Inv-loop μ-loop
-unfolding asState
-returns-2 c =
-    let turn = c .before in
-    let start = turn .before .before .before in
-    fed-end (start .pre) _ _ _ (turn .loop .inv .2) (omega arith)
+state-by-requires : tie.Need-state-by-requires Inv-loop μ-loop
+state-by-requires c κs = search needs
+
+returns : tie.Need-returns Inv-loop μ-loop
+returns c =
+    let turn = c .before .before in
+    c .state-by .ensures ∙ fed-all (turn .before .before .before .pre) _ _ (omega arith) (turn .loop .inv .1)
 
 pub fed-at-spec : {M : Type 1} → statement M
 fed-at-spec =
@@ -70,10 +53,9 @@ fed-at-spec =
     μ-loop
     record-count-requires
     loop-holds
-    feeds-requires
-    slot-at-requires
-    returns
-    add-k
+    sub-k
+    fed-from-requires
     loop-less
     loop-again
-    returns-2)
+    state-by-requires
+    returns)
