@@ -8,4 +8,5 @@ pub mod Greatest
 pub mod Demand1
 pub mod Demand2
 pub mod Demand3
+pub mod WholeSecond
 pub mod Log
