@@ -51,7 +51,7 @@ class Plan:
         """The dose as the library draws it: at its window's ends, at slot edges and at about so many ticks between.
         Where more ticks are asked for, at those in its window too.
 
-        Checked: its fan is that of the bar there."""
+        Checked: its fan is that of the first bar in the second from there on, and it has none where no bar is."""
         window, slots = self.order.doses[dose], self.of_dose(dose)
         step = max(1, ceil(sum(slot.end - slot.start for slot in slots) / most))
         ticks = {window.release, window.deadline, *(at for at in more if window.release < at < window.deadline)}
@@ -61,7 +61,8 @@ class Plan:
         found = [(tick, self.point(dose, tick)) for tick in sorted(ticks)]
         for tick, point in found:
             fans = [point.fan] if point.state == DOSING else []
-            if point.number or fans != [slot.fan for slot in slots if slot.start <= tick < slot.end]:
+            # A bar that has time in the second from the tick on, the first one in time: the bars are in time order.
+            if point.number or fans != [slot.fan for slot in slots if slot.start < tick + 1 and slot.end > tick][:1]:
                 raise Differs(f"dose {dose} at tick {tick}: the library's point and the bars differ")
         return found
 
