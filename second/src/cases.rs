@@ -88,7 +88,7 @@ fn said(plan: &[u8]) -> (Vec<Said>, Vec<Line>) {
 }
 
 /// Plans an example and holds its classes and slots against document 01's; no example leaves the shares open.
-fn example(c: &mut Checks, name: &str, o: &Order, classes: &[Said], slots: &[Line]) -> Vec<u8> {
+pub fn example(c: &mut Checks, name: &str, o: &Order, classes: &[Said], slots: &[Line]) -> Vec<u8> {
     let bytes = write(o, 0);
     let plan = c.planned(name, &bytes, classes.len() as u32, slots.len() as u32);
     c.same(name, said(&plan), (classes.to_vec(), slots.to_vec()));
@@ -98,7 +98,7 @@ fn example(c: &mut Checks, name: &str, o: &Order, classes: &[Said], slots: &[Lin
 }
 
 /// The drawn amounts of a dose at some ticks.
-fn amounts(c: &mut Checks, name: &str, o: &Order, plan: &[u8], dose: usize, at: &[(u32, u32, u32, u32)]) {
+pub fn amounts(c: &mut Checks, name: &str, o: &Order, plan: &[u8], dose: usize, at: &[(u32, u32, u32, u32)]) {
     for &(tick, amount, state, fan) in at {
         c.point(
             &format!("{name}, dose {dose} at {tick}"),
@@ -129,7 +129,7 @@ pub fn proved(c: &mut Checks) {
     print(c, "P2, printed whole", &two, &plan, P2_PRINT);
     let plan = example(c, "P3", &p3(), &[(3, 3, 1)], &[[1, 0, 0, 0, 0, 1, 1], [1, 1, 0, 1, 1, 0, 1]]);
     amounts(c, "P3", &p3(), &plan, 0, &[(0, 0, DOSING, 1), (1, 1, FINISHED, 0)]);
-    amounts(c, "P3", &p3(), &plan, 1, &[(0, 0, IDLE, 0), (1, 2, FINISHED, 0)]);
+    amounts(c, "P3", &p3(), &plan, 1, &[(0, 0, DOSING, 1), (1, 2, FINISHED, 0)]);
     let p4_slots = [[1, 0, 0, 0, 2, 0, 1], [1, 1, 2, 0, 4, 0, 1]];
     example(c, "P4", &order(1, TOP, &[(0, 2, 4), (2, 4, 4)]), &[(3, 8, 4)], &p4_slots);
     example(c, "P5", &p5(), &[(1, 10, 5)], &[[1, 0, 0, 0, 5, 0, 1]]);

@@ -6,7 +6,7 @@ use crate::library::{Drawn, Judged, Laid, Peer, Planned};
 use crate::meter::RAGGED;
 use crate::orders::RECORD;
 use crate::random::Random;
-use crate::{cases, drawing, laying, refusals, verdicts};
+use crate::{cases, drawing, feeding, laying, refusals, verdicts};
 use std::fmt::Debug;
 
 pub struct Checks<'a> {
@@ -100,7 +100,7 @@ impl Checks<'_> {
 /// A name, and the checks behind it.
 type Group = (&'static str, fn(&mut Checks));
 
-const GROUPS: [Group; 14] = [
+const GROUPS: [Group; 16] = [
     ("planning: P1 to P12", cases::proved),
     ("planning: the run line", cases::run_line),
     ("refusals: 1 to 9, each alone", refusals::alone),
@@ -110,6 +110,8 @@ const GROUPS: [Group; 14] = [
     ("judging: other plans that stand", verdicts::standing),
     ("judging: a plan longer than the planner's buffer", verdicts::long),
     ("drawing: the four states", cases::states),
+    ("drawing: the whole second of C-12", feeding::planned),
+    ("drawing: several slots of a dose in one second", feeding::several),
     ("drawing: 10, 11 and 12 at their edges", drawing::edges),
     ("drawing: the pen", drawing::pen),
     ("laying: the figures of C-11", laying::figures),

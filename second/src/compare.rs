@@ -1,6 +1,6 @@
 //! One case: a peer's five entry points held against the second program's own.
 
-use crate::answers::{accept, not_drawn, not_laid, planned, refusal, refused, House, PLAN_BUFFER};
+use crate::answers::{accept, drawn, not_drawn, not_laid, planned, refusal, refused, House, PLAN_BUFFER};
 use crate::demand3::sentences;
 use crate::layout::Slot;
 use crate::library::{Drawn, Judged, Laid, Peer, Planned};
@@ -8,7 +8,7 @@ use crate::measure::Measure;
 use crate::orders::{RECORD, WEEK};
 use crate::random::Random;
 use crate::tally::Tally;
-use crate::{alone, cases, guard, log, meter, near, stretches, variants};
+use crate::{alone, cases, guard, log, meter, near, seconds, stretches, variants};
 
 /// A case in which the two differ, with the bytes that show it.
 pub struct Difference {
@@ -17,6 +17,9 @@ pub struct Difference {
     pub plan: Vec<u8>,
     pub log: Vec<u8>,
 }
+
+/// Slots of a damaged plan that still stands around whose edges points are asked for.
+const FEW: usize = 4;
 
 /// Once in so many accepted orders a log of about 4,096 records is laid.
 const LONG: u64 = 8;
@@ -107,7 +110,20 @@ impl Case<'_> {
         Ok(())
     }
 
-    /// Points and pens on a plan that stands: at every slot edge, the dose's edges, the week's end and by chance.
+    /// Points around the edges of so many slots, each true to C-12.
+    fn edges(&mut self, house: &House, slots: &[Slot], plan: &[u8], most: usize) -> Result<(), Difference> {
+        for (dose, tick) in seconds::edges(slots, most, self.r) {
+            let own = house.point(slots, dose, tick);
+            self.point(plan, drawn(own), dose, tick)?;
+            match seconds::sentence(house, slots, dose, tick, own.state) {
+                Ok(kind) => self.tally.second(kind),
+                Err(what) => return self.differ(format!("C-12: {what}"), plan),
+            }
+        }
+        Ok(())
+    }
+
+    /// Points and pens on a plan that stands: at slot edges, the dose's edges, the week's end and by chance.
     fn draw(&mut self, house: &House, slots: &[Slot], plan: &[u8]) -> Result<(), Difference> {
         let n = house.order.doses.len();
         let mut asked = Vec::new();
@@ -117,10 +133,7 @@ impl Case<'_> {
             asked.extend([WEEK - 1, WEEK, WEEK + 1, u32::MAX].map(|t| (k, t)));
             asked.extend((0..4).map(|_| (k, self.r.range(d.release, d.deadline))));
         }
-        for s in slots {
-            let k = s.dose as usize;
-            asked.extend([s.start.0, s.start.0 + 1, s.end.0, s.end.0 + 1, s.end.0.saturating_sub(1)].map(|t| (k, t)));
-        }
+        asked.extend(seconds::edges(slots, slots.len(), self.r));
         self.r.shuffle(&mut asked);
         asked.truncate(self.measure.points);
         asked.extend([(n, 0), (n + 1, WEEK + 1), (usize::MAX, u32::MAX), (n, self.r.range(0, WEEK))]);
@@ -193,14 +206,16 @@ impl Case<'_> {
         self.lay(house, slots, plan, dose, &bytes)
     }
 
-    /// A plan that must stand: judged, drawn, demand 3 held against it, and logs laid beside it.
-    fn standing(&mut self, house: &House, plan: &[u8]) -> Result<(), Difference> {
+    /// A plan that must stand: judged, drawn, also around the edges of so many slots, demand 3 and C-12 held against it, and logs laid
+    /// beside it.
+    fn standing(&mut self, house: &House, plan: &[u8], most: usize) -> Result<(), Difference> {
         let Some(slots) = self.judge(house, plan)? else {
             return self.differ("a plan that should stand does not".into(), plan);
         };
         if let Err(what) = sentences(house, &slots, self.measure.moments, self.r) {
             return self.differ(format!("demand 3: {what}"), plan);
         }
+        self.edges(house, &slots, plan, most)?;
         self.draw(house, &slots, plan)?;
         self.logs(house, &slots, plan)
     }
@@ -214,7 +229,9 @@ impl Case<'_> {
         }
         for at in places {
             let bytes = variants::damage_byte(plan, at, self.r);
-            self.judge(house, &bytes)?;
+            if let Some(slots) = self.judge(house, &bytes)? {
+                self.edges(house, &slots, &bytes, FEW)?;
+            }
         }
         for _ in 0..self.measure.records {
             let mut bytes = variants::damage(plan, self.r);
@@ -224,7 +241,10 @@ impl Case<'_> {
             let slots = self.judge(house, &bytes)?;
             let (dose, tick) = (self.r.below(30) as usize, self.r.range(0, WEEK + 9));
             match slots {
-                Some(slots) => self.point(&bytes, house.draw(&slots, dose, tick), dose, tick)?,
+                Some(slots) => {
+                    self.point(&bytes, house.draw(&slots, dose, tick), dose, tick)?;
+                    self.edges(house, &slots, &bytes, FEW)?;
+                }
                 None => {
                     self.point(&bytes, refused(10), dose, tick)?;
                     self.step(&bytes, refused(10), dose, tick, tick)?;
@@ -284,8 +304,9 @@ impl Case<'_> {
         plans.push(house.plan(None));
         plans.push(variants::standing(&house, self.r));
         plans.push(variants::standing(&house, self.r));
-        for plan in &plans {
-            self.standing(&house, plan)?;
+        for (number, plan) in plans.iter().enumerate() {
+            let planners = number == 0 && self.measure.every;
+            self.standing(&house, plan, if planners { usize::MAX } else { self.measure.slots })?;
         }
         let any = self.r.below(plans.len() as u64) as usize;
         let slots = house.stands(&plans[any]).unwrap_or_default();

@@ -13,7 +13,7 @@ fn covers(s: &Slot, k: u64, q: u64) -> bool {
 }
 
 /// The exact amount at k/q times q P, added up slot by slot.
-fn exact(slots: &[Slot], dose: usize, k: u64, q: u64) -> u128 {
+pub fn exact(slots: &[Slot], dose: usize, k: u64, q: u64) -> u128 {
     let own = slots.iter().filter(|s| s.dose as usize == dose);
     own.map(|s| {
         let (from, to) = (u128::from(s.from()) * u128::from(q), u128::from(s.to()) * u128::from(q));

@@ -1,4 +1,4 @@
-//! The drawn line of a dose, its four states, and the pen.
+//! The drawn line of a dose, and its four states by the whole second.
 
 use crate::classes::Class;
 use crate::layout::Slot;
@@ -29,9 +29,11 @@ pub fn class_of(classes: &[Class], dose: usize) -> usize {
     classes.iter().position(|c| c.set >> dose & 1 == 1).expect("every dose has a class")
 }
 
-/// The slot that covers the instant `tick`, if one does.
-fn covering(slots: &[Slot], dose: usize, tick: u32) -> Option<&Slot> {
-    slots.iter().find(|s| s.dose as usize == dose && s.start <= (tick, 0) && s.end > (tick, 0))
+/// Of the dose's slots that feed the second, "starts before t+1 and ends after t", the earliest (C-12). The file does not tell: a share cut
+/// by wrap-around is listed with its later piece first. One dose, one W: moments compare by tick, then part.
+fn earliest_fed(slots: &[Slot], dose: usize, tick: u32) -> Option<&Slot> {
+    let own = slots.iter().filter(|s| s.dose as usize == dose);
+    own.filter(|s| s.start < (tick + 1, 0) && s.end > (tick, 0)).min_by_key(|s| s.start)
 }
 
 pub fn point(order: &Order, classes: &[Class], slots: &[Slot], dose: usize, tick: u32) -> Point {
@@ -42,7 +44,7 @@ pub fn point(order: &Order, classes: &[Class], slots: &[Slot], dose: usize, tick
     } else if tick < d.release {
         State::Shut
     } else {
-        covering(slots, dose, tick).map_or(State::Idle, |s| State::Dosing(s.fan))
+        earliest_fed(slots, dose, tick).map_or(State::Idle, |s| State::Dosing(s.fan))
     };
     Point { amount: amount as u32, state }
 }

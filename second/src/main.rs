@@ -12,6 +12,7 @@ mod clauses;
 mod compare;
 mod demand3;
 mod drawing;
+mod feeding;
 mod flow;
 mod glpk;
 mod guard;
@@ -37,6 +38,7 @@ mod random;
 mod refusals;
 mod runs;
 mod samples;
+mod seconds;
 mod selftest;
 mod shares;
 #[cfg(feature = "errors")]

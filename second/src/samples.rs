@@ -1,7 +1,7 @@
 //! The sample orders.
 
 use crate::answers::accept;
-use crate::cases::{examples, p2};
+use crate::cases::{examples, order, p2, TOP};
 use crate::compare::order_of;
 use crate::orders::{write, Dose, Order};
 use crate::random::Random;
@@ -53,7 +53,10 @@ pub fn all() -> Vec<(&'static str, Vec<u8>)> {
     (fast.top_grams, fast.top_seconds) = (29, 10);
     let mut damaged = write(&house(), 0);
     damaged[7 * 32 + 21] = 0x40;
-    vec![("p2", write(&p2(), 0)), ("house", write(&house(), 0)), ("fast", write(&fast, 0)), ("damaged", damaged), ("hard", HARD.to_vec())]
+    // The middle dose is cut in two within its one second.
+    let cut = write(&order(2, TOP, &[(5, 6, 10); 3]), 0);
+    let own = [("p2", write(&p2(), 0)), ("house", write(&house(), 0)), ("fast", write(&fast, 0)), ("damaged", damaged)];
+    own.into_iter().chain([("hard", HARD.to_vec()), ("cut", cut)]).collect()
 }
 
 fn put(folder: &Path, name: &str, bytes: &[u8]) -> bool {

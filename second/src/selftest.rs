@@ -3,7 +3,7 @@
 use crate::answers::{accept, House, OWN};
 use crate::checks;
 use crate::classes::{by_flow, by_subsets};
-use crate::demand3::sentences;
+use crate::demand3;
 use crate::intervals::Intervals;
 use crate::layout::{plan_bytes, Slot};
 use crate::log::{flow, flow_bits, TOP_FLOW};
@@ -12,7 +12,7 @@ use crate::orders::{write, Order, RECORD};
 use crate::random::Random;
 use crate::runs;
 use crate::stands::{Broken, CLAUSES};
-use crate::{alone, clauses, styles, variants};
+use crate::{alone, clauses, seconds, styles, variants};
 use std::time::Instant;
 
 fn fail(what: &str, case: u64, order: &Order) -> bool {
@@ -53,7 +53,13 @@ fn flows() -> bool {
     (0..=TOP_FLOW).all(read) && count == TOP_FLOW as usize
 }
 
-/// A plan in several shapes: each must stand and keep demand 3.
+/// Demand 3 at so many pairs of checks, C-12 around the edges of so many slots.
+fn sentences(house: &House, slots: &[Slot], times: u32, r: &mut Random) -> Result<(), String> {
+    demand3::sentences(house, slots, times, r)?;
+    seconds::sentences(house, slots, times as usize, r)
+}
+
+/// A plan in several shapes: each must stand and keep demand 3 and C-12.
 fn shapes(house: &House, r: &mut Random) -> Vec<(&'static str, Vec<Slot>)> {
     let own = house.slots(None);
     let other = house.slots(Some(r));
@@ -92,9 +98,7 @@ fn plans(cases: u64, seed: u64) -> bool {
         }
     }
     took(
-        &format!(
-            "{standing} plans stand and keep demand 3 at 40 checks each, {differing} orders with other shares, longest {longest} slots"
-        ),
+        &format!("{standing} plans stand and keep demand 3 and C-12, {differing} orders with other shares, longest {longest} slots"),
         began,
     );
     true
@@ -159,7 +163,7 @@ fn place(clause: Broken) -> usize {
     CLAUSES.iter().position(|c| *c == clause).expect("every clause is listed")
 }
 
-/// Plans damaged at every byte: one verdict of both judges each, and those that still stand keep demand 3.
+/// Plans damaged at every byte: one verdict of both judges each, and those that still stand keep demand 3 and C-12.
 fn damage(cases: u64, seed: u64) -> bool {
     let began = Instant::now();
     let mut met = Met::default();

@@ -26,6 +26,9 @@ pub enum Slip {
     StraightLine,
     RoundedSlots,
     DosingAtEnd,
+    Instant,
+    FirstInFile,
+    DosingBefore,
     TouchingMeets,
     NoTotals,
     PenMoves,
@@ -48,7 +51,7 @@ pub enum Slip {
 
 use Slip::*;
 
-pub const SLIPS: [(Slip, &str); 29] = [
+pub const SLIPS: [(Slip, &str); 32] = [
     (FansUsed, "Fig. 2, line 6 as printed: the smaller of active doses and fans already used"),
     (FansUsedLater, "the same, but the first class sees all fans"),
     (AnySet, "any set of greatest rate: the last one met"),
@@ -60,6 +63,9 @@ pub const SLIPS: [(Slip, &str); 29] = [
     (StraightLine, "a straight line from release to deadline"),
     (RoundedSlots, "amounts rounded slot by slot"),
     (DosingAtEnd, "Dosing at the slot's end"),
+    (Instant, "Dosing by the instant t alone"),
+    (FirstInFile, "the fan of the first slot in the file"),
+    (DosingBefore, "a slot that starts at t + 1 counts as Dosing at t"),
     (TouchingMeets, "judging: touching slots count as overlapping"),
     (NoTotals, "judging: totals not checked"),
     (PenMoves, "the pen moved on a refusal"),

@@ -5,6 +5,7 @@ use crate::layout::Slot;
 use crate::library::Judged;
 use crate::log::{metered, Fault, Read, Reading, FAULTS};
 use crate::orders::Refusal;
+use crate::seconds::SECONDS;
 use crate::stands::CLAUSES;
 
 #[derive(Clone, Default)]
@@ -13,6 +14,7 @@ pub struct Tally {
     orders: [u64; 10],
     plannings: [u64; 13],
     drawings: [u64; 13],
+    seconds: [u64; SECONDS.len()],
     standing: u64,
     clauses: [u64; CLAUSES.len()],
     doses: [u64; 25],
@@ -44,6 +46,11 @@ impl Tally {
 
     pub fn drawn(&mut self, number: u32) {
         self.drawings[number.min(12) as usize] += 1;
+    }
+
+    /// A second whose state was asked for around a slot's edge.
+    pub fn second(&mut self, kind: usize) {
+        self.seconds[kind] += 1;
     }
 
     pub fn judged(&mut self, own: &Result<Vec<Slot>, &'static str>) {
@@ -86,6 +93,7 @@ impl Tally {
         sum(&mut self.orders, &other.orders);
         sum(&mut self.plannings, &other.plannings);
         sum(&mut self.drawings, &other.drawings);
+        sum(&mut self.seconds, &other.seconds);
         sum(&mut self.clauses, &other.clauses);
         sum(&mut self.doses, &other.doses);
         sum(&mut self.logs, &other.logs);
@@ -103,6 +111,9 @@ impl Tally {
         println!("accepted by doses     {}", row(&self.doses));
         println!("planning by answer    {}", row(&self.plannings));
         println!("points, pens by answer {}", row(&self.drawings));
+        for (kind, n) in SECONDS.iter().zip(self.seconds) {
+            println!("seconds at slot edges {n:>9}  {kind}");
+        }
         println!("plans judged standing {}, the longest of {} slots", self.standing, self.most_slots);
         for (clause, n) in CLAUSES.iter().zip(self.clauses) {
             println!("plans judged broken   {n:>9}  {clause}");

@@ -5,14 +5,17 @@ use crate::answers::{accept, refusal, refused, House, PLAN_BUFFER};
 use crate::cases::{order, p1, p2, p3, p5, p6, TOP};
 use crate::checks::Checks;
 use crate::clauses;
-use crate::demand3::sentences;
+use crate::demand3;
 use crate::layout::{class_record, plan_bytes, Slot};
 use crate::library::Judged;
 use crate::orders::{write, Order, RECORD};
 use crate::random::Random;
-use crate::samples;
 use crate::stands::Broken;
 use crate::variants::{move_blocks, permute_fans, sorted, split};
+use crate::{samples, seconds};
+
+/// Slots of a plan around whose edges points are asked for: all of most plans here, some of the longest sample's.
+const SLOTS: usize = 200;
 
 /// An accepted order, its bytes, and the slots of the second program's plan.
 struct Bench {
@@ -37,19 +40,19 @@ impl Bench {
         plan_bytes(&self.house.classes, &sorted(&self.house, slots.to_vec()))
     }
 
-    /// A plan that stands: judged 0, drawn as the second program draws it, and true to demand 3.
+    /// A plan that stands: judged 0, drawn as the second program draws it, and true to demand 3 and C-12.
     fn right(&self, c: &mut Checks, name: &str, plan: &[u8]) {
         c.judge(name, &self.bytes, plan, Judged::default());
         c.same(name, clauses::broken(&self.house, plan), Vec::new());
         let slots = self.house.stands(plan).unwrap_or_default();
         c.same(name, slots.is_empty(), self.house.order.doses.is_empty());
-        c.same(name, sentences(&self.house, &slots, 40, &mut Random::new(3)), Ok(()));
-        for (dose, d) in self.house.order.doses.iter().enumerate() {
-            let edges = slots.iter().filter(|s| s.dose as usize == dose).flat_map(|s| [s.start.0, s.end.0]);
-            let ticks = edges.chain([d.release, d.deadline - 1, d.deadline]).take(40);
-            for tick in ticks.collect::<Vec<u32>>() {
-                c.point(name, &self.bytes, plan, dose, tick, self.house.draw(&slots, dose, tick));
-            }
+        let mut r = Random::new(3);
+        c.same(name, demand3::sentences(&self.house, &slots, 40, &mut r), Ok(()));
+        c.same(name, seconds::sentences(&self.house, &slots, slots.len(), &mut r), Ok(()));
+        let windows = self.house.order.doses.iter().enumerate();
+        let asked = windows.flat_map(|(dose, d)| [(dose, d.release), (dose, d.deadline - 1), (dose, d.deadline)]);
+        for (dose, tick) in asked.chain(seconds::edges(&slots, SLOTS, &mut r)) {
+            c.point(&format!("{name}, dose {dose} at {tick}"), &self.bytes, plan, dose, tick, self.house.draw(&slots, dose, tick));
         }
     }
 
@@ -186,7 +189,8 @@ pub fn standing(c: &mut Checks) {
             ("other shares", other),
         ];
         for (shape, slots) in shapes {
-            let free = name != "p2" || shape != "other shares";
+            // The shares of these two are forced, and blocks are whole seconds, of which the second has one.
+            let free = !matches!((name, shape), ("p2" | "cut", "other shares") | ("cut", "blocks moved"));
             c.same(&format!("{name}, {shape}: another plan"), slots != bench.slots, free);
             bench.right(c, &format!("{name}, {shape}"), &plan_bytes(&bench.house.classes, &slots));
         }
