@@ -73,16 +73,16 @@ pub struct Moved {
     pub drawn: Drawn,
 }
 
-// Whether record k is a slot of the dose.
+// Whether record k is a slot of the dose. Most records are slots of others: the dose is asked first.
 fn own_slot(plan: &[u8], k: usize, dose: usize) -> bool
     requires { ⌜ k < length (now plan) / recordSize ⌝ }
     ensures { λ t. ⌜ t ≡ ownSlot (now (plan .entry)) k dose ⌝ }
 {
-    if kind_at(plan, k) != SLOT_KIND {
+    let s = slot_at(plan, k);
+    if dose != s.dose as usize {
         return false;
     }
-    let s = slot_at(plan, k);
-    dose == s.dose as usize
+    kind_at(plan, k) == SLOT_KIND
 }
 
 // The units of a slot before a tick.
