@@ -8,6 +8,7 @@ use order::Order;
 use std::num::wrapping_add_u64;
 use steps::index;
 use steps::limits::CELLS;
+use steps::limits::MOST_BAY;
 use steps::limits::MOST_DOSES;
 use steps::limits::MOST_INTERVALS;
 use steps::limits::ORDER_ROOM;
@@ -276,7 +277,7 @@ fn show_order(o: Order)
 }
 
 fn show(bytes: &[u8]) {
-    let r = order::read_order(bytes);
+    let r = order::read_order(MOST_BAY, bytes);
     if r.number != 0 {
         show_refused(r.number, r.place);
         word(b"\n");

@@ -11,6 +11,7 @@ use Prim.Native.Nat.{ℕ, _+_, _*_, _≤_, _<_}
 use native.Mathlib.Omega.{arith}
 use borrow.Author.Tests.{ne-eqb}
 use lib.ListN.{getD, length, take}
+use Rattle.model.specs.Limits.{lastOpenBay}
 use Rattle.model.specs.Records.{recordSize}
 use Rattle.model.specs.Sets.{Doses}
 use Rattle.model.specs.Orders.{Order, doseAt}
@@ -23,7 +24,7 @@ use Rattle.model.specs.Log.{noFigures, readLog}
 use Rattle.model.specs.Answers.{Accepts, Answer, Drawn, Draws, Judges, Laid, Lays, Moves, Pen, Planned, Plans, lineOf, noPoint, notLaid, planBytes}
 use Rattle.demands.proofs.Demand1.Agreeing.{Agree, laid-drawn, plans-agree}
 use Rattle.demands.proofs.Demand1.ByOrder.{drawn-order, judged-order, laid-order}
-use Rattle.model.proofs.Answers.{drawn-refused, draws-one, judges-one, lays-one, moves-one, pen-draws, pen-goes, plan-settled, refuses-number, same-slots}
+use Rattle.model.proofs.Answers.{drawn-refused, draws-one, judges-one, lays-one, moves-one, pen-draws, pen-goes, plan-settled, refuses-number, refuses-open, refuses-some, same-slots}
 use Rattle.demands.proofs.Demand1.EveryCall.{draws-some, judges-some, lays-some, moves-some, plans-some}
 use Rattle.demands.proofs.Demand1.Rows.{DrawingRow, GivenExactly, JudgingRow, LayingRow, OnlyMeant, PlanningRow, drawing-given, judging-given, laying-given, order-meant, planning-given, planning-meant}
 use Rattle.demands.proofs.Demand2.Planning.{kept, plan-in-front}
@@ -80,17 +81,17 @@ pub one-plan-of-the-shares : (o : Order) (p : ℕ) (C C′ : ℕ → Doses) → 
     → (length (slotsOf o p C x) ≡ length (slotsOf o p C′ x′)) × (planBytes o p C x ≡ planBytes o p C′ x′)
 one-plan-of-the-shares o p C C′ c c′ x x′ same = (ap length (same-slots o p C C′ c c′ x x′ same), plan-settled o p C C′ c c′ x x′ same)
 
--- ---- "A refusal is one of the numbered ones": of planning 1 to 9, of judging 2 to 10, of drawing and the pen 2 to 12, of laying a log 2 to 11, 13 and 14
+-- ---- "A refusal is one of the numbered ones": of planning 1 to 9 and 15, of judging 2 to 10, of drawing and the pen 2 to 12, of laying a log 2 to 11, 13 and 14
 
--- planning answers 0 to 9
-pub planning-numbers : {order before : List ℕ} {r : Planned} {after : List ℕ} → Plans order before r after → r .answer .number ≤ 9
-planning-numbers (Plans.no-room s) = omega arith
-planning-numbers (Plans.refuses w a q) = refuses-number q .1
-planning-numbers (Plans.plans w o g p C c x v) = omega arith
+-- planning answers 0 to 9, or 15
+pub planning-numbers : {order before : List ℕ} {r : Planned} {after : List ℕ} → Plans order before r after → (r .answer .number ≤ 9) ⊎ (r .answer .number ≡ 15)
+planning-numbers (Plans.no-room s) = inl (omega arith)
+planning-numbers (Plans.refuses w a q) = elim (refuses-number q) [ inl n ↦ inl (n .1) | inr c ↦ inr (c .0) ]
+planning-numbers (Plans.plans w o g p C c x v) = inl (omega arith)
 
 -- judging answers 0, or 2 to 10
 pub judging-numbers : {order plan : List ℕ} {a : Answer} → Judges order plan a → (a .number ≡ 0) ⊎ ((2 ≤ a .number) × (a .number ≤ 10))
-judging-numbers (Judges.refuses a q) = let n = refuses-number q in inr (n .0, omega (arith, n))
+judging-numbers (Judges.refuses a q) = let n = refuses-open q in inr (n .0, omega (arith, n))
 judging-numbers (Judges.falls o g h) = inr (omega arith, omega arith)
 judging-numbers (Judges.stands o g h) = inl refl
 
@@ -125,7 +126,7 @@ laying-as-drawing {t = t} h k = (λ low high. draws-one k (laid-drawn h low high
 
 -- ---- "given exactly when": the answer has a number and a place exactly when their row of the table says
 
--- planning, rows 0 to 9
+-- planning, rows 0 to 9 and 15
 pub planning-exactly : {order before : List ℕ} {r : Planned} {after : List ℕ} → Plans order before r after → GivenExactly (r .answer) (PlanningRow order before)
 planning-exactly = planning-given
 
@@ -209,9 +210,9 @@ success-changes-its-records h = let k = kept h in (k .as-long, k .behind)
 
 -- which are the plan
 pub success-leaves-the-plan : {order before : List ℕ} {r : Planned} {after : List ℕ} → Plans order before r after → r .answer .number ≡ 0
-    → (o : Order) × Accepts order o × Stands o (take (recordSize * (r .classes + r .slots)) after)
+    → (o : Order) × Accepts lastOpenBay order o × Stands o (take (recordSize * (r .classes + r .slots)) after)
 success-leaves-the-plan (Plans.no-room s) z = absurd (omega arith)
-success-leaves-the-plan (Plans.refuses w a q) z = absurd (omega (arith, refuses-number q))
+success-leaves-the-plan (Plans.refuses w a q) z = absurd (refuses-some q z)
 success-leaves-the-plan {order} {before} {r} {after} (Plans.plans w o g p C c x v) z =
     (o, g, plan-in-front order before o g w r after (Plans.plans w o g p C c x v))
 

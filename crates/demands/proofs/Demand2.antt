@@ -1,4 +1,5 @@
--- Demand 2, sentence by sentence: the rates, what the slots deliver, and the refusal for the top rate. Orders are those that are read, plans those that stand.
+-- Demand 2, sentence by sentence: the rates, what the slots deliver, and the refusal for the top rate. Orders are those that are read, with any last
+-- bay open, so that planning's and judging's are among them; plans those that stand.
 pub mod FreeBound
 pub mod OwnPlan
 pub mod Refusal
@@ -15,7 +16,7 @@ use Prim.Native.Nat.{ℕ, _+_, _*_, _≤_, _<_}
 use native.Mathlib.Omega.{arith}
 use lib.Dec.{T, ltb→lt}
 use lib.ListN.{length, getD}
-use Rattle.model.specs.Limits.{planRoom}
+use Rattle.model.specs.Limits.{lastOpenBay, planRoom}
 use Rattle.model.specs.Sets.{Doses}
 use Rattle.model.specs.Lists.{total}
 use Rattle.model.specs.Records.{recordSize, read}
@@ -42,9 +43,9 @@ use Rattle.demands.proofs.Demand2.Planning.{accepted-plan, planned}
 -- fan time open to it"
 
 -- every order that is read has such classes, each with open fan time ("P is above zero")
-pub has-classes : (order : List ℕ) (o : Order) → readOrder order ≡ read o
+pub has-classes : (last : ℕ) (order : List ℕ) (o : Order) → readOrder last order ≡ read o
     → (p : ℕ) × (C : ℕ → Doses) × Classes (settingOf o) (fansPresent o) p C × ((i : ℕ) → i < p → 0 < classP (settingOf o) (fansPresent o) C i)
-has-classes order o e = let r = classes-of o (read-fits order o e) in (r .0, r .1, r .2, class-open o (r .0) (r .1) (r .2) (read-fits order o e))
+has-classes last order o e = let r = classes-of o (read-fits last order o e) in (r .0, r .1, r .2, class-open o (r .0) (r .1) (r .2) (read-fits last order o e))
 
 -- and one sequence of them: as many, with the same doses
 pub one-sequence : (o : Order) (p p′ : ℕ) (C C′ : ℕ → Doses) → Classes (settingOf o) (fansPresent o) p C → Classes (settingOf o) (fansPresent o) p′ C′
@@ -62,10 +63,10 @@ slots-have-the-rates = slot-rate
 -- ---- "The slots deliver each dose exactly, inside its window, no fan and no dose in two slots at one moment."
 
 -- "deliver each dose exactly": the units of its slots, divided by P, are its grams
-pub deliver-exactly : (order : List ℕ) (o : Order) → readOrder order ≡ read o → (plan : List ℕ) → Stands o plan → (d : ℕ) → d < settingOf o .doses
+pub deliver-exactly : (last : ℕ) (order : List ℕ) (o : Order) → readOrder last order ≡ read o → (plan : List ℕ) → Stands o plan → (d : ℕ) → d < settingOf o .doses
     → (total (unitsOf d) (slotsRead (planRecords plan)) ≡ doseAt o d .grams * timeOf (slotsRead (planRecords plan)) d)
     × (0 < timeOf (slotsRead (planRecords plan)) d)
-deliver-exactly order o e plan st d l = let r = plan-line o plan st (read-fits order o e) d l in (r .all-units, r .some-time)
+deliver-exactly last order o e plan st d l = let r = plan-line o plan st (read-fits last order o e) d l in (r .all-units, r .some-time)
 
 -- "inside its window"
 pub inside-its-window : (o : Order) (plan : List ℕ) → Stands o plan → (s : Slot) → OneOf (slotsRead (planRecords plan)) s
@@ -80,41 +81,41 @@ pub never-in-two-slots : (o : Order) (plan : List ℕ) → Stands o plan → (q 
 never-in-two-slots = slots-apart
 
 -- and so no bay: "A bay has one inlet, so one fan at a time feeds it"
-pub one-fan-at-a-bay : (order : List ℕ) (o : Order) → readOrder order ≡ read o → (plan : List ℕ) → Stands o plan
+pub one-fan-at-a-bay : (last : ℕ) (order : List ℕ) (o : Order) → readOrder last order ≡ read o → (plan : List ℕ) → Stands o plan
     → (q x i i′ : ℕ) (u : Slot) → i < i′ → i′ < length (slotsRead (planRecords plan))
     → Covers q x (getD (slotsRead (planRecords plan)) i u) → Covers q x (getD (slotsRead (planRecords plan)) i′ u)
     → doseAt o (getD (slotsRead (planRecords plan)) i u .dose) .bay ≡ doseAt o (getD (slotsRead (planRecords plan)) i′ u .dose) .bay → ⊥
-one-fan-at-a-bay order o e plan st = bays-apart o plan st (read-fits order o e)
+one-fan-at-a-bay last order o e plan st = bays-apart o plan st (read-fits last order o e)
 
 -- ---- "An order with no other fault is refused for the top rate exactly if no plan within that rate exists, and the set that shows it is named."
 
-module _ (order : List ℕ) (o : Order) (e : readOrder order ≡ read o) where
+module _ (last : ℕ) (order : List ℕ) (o : Order) (e : readOrder last order ≡ read o) where
   -- "refused for the top rate exactly if no plan within that rate exists"
-  pub refused-exactly : ((a : Answer) × Refuses order a) ↔ (FreePlan o → ⊥)
+  pub refused-exactly : ((a : Answer) × Refuses last order a) ↔ (FreePlan o → ⊥)
   refused-exactly = (
     λ r. let n = refused-names order o e (r .0) (r .1) in above-none o (n .0 .set) (n .0 .too-fast),
-    λ no. elim (free-or-above o (read-fits order o e)) [
+    λ no. elim (free-or-above o (read-fits last order o e)) [
       | inl f ↦ absurd (no f)
       | inr t ↦ (tooFast o (t .set), above o (t .set) e (t .first) (t .too-fast))
     ],
   )
 
   -- accepted exactly if one exists
-  pub accepted-exactly : Accepts order o ↔ FreePlan o
+  pub accepted-exactly : Accepts last order o ↔ FreePlan o
   accepted-exactly = (
-    λ a. elim (free-or-above o (read-fits order o e)) [ inl f ↦ f | inr t ↦ absurd (a .slow (t .set) (t .first) (t .too-fast)) ],
+    λ a. elim (free-or-above o (read-fits last order o e)) [ inl f ↦ f | inr t ↦ absurd (a .slow (t .set) (t .first) (t .too-fast)) ],
     λ f. record { reads = e; slow = λ A first t. above-none o A t f },
   )
 
   -- and always one of the two
-  pub accepted-or-refused : Accepts order o ⊎ ((a : Answer) × Refuses order a)
-  accepted-or-refused = elim (free-or-above o (read-fits order o e)) [
+  pub accepted-or-refused : Accepts last order o ⊎ ((a : Answer) × Refuses last order a)
+  accepted-or-refused = elim (free-or-above o (read-fits last order o e)) [
     | inl f ↦ inl (accepted-exactly .1 f)
     | inr t ↦ inr (tooFast o (t .set), above o (t .set) e (t .first) (t .too-fast))
   ]
 
   -- "and the set that shows it is named": the answer has the first class, its W and P, and these are above the top rate
-  pub names-the-set : (a : Answer) → Refuses order a
+  pub names-the-set : (a : Answer) → Refuses last order a
       → (A : Doses) × FirstClass o A × (a ≡ tooFast o A) × (a .time * o .topGrams < a .weight * o .topSeconds)
   names-the-set a r =
       let n = refused-names order o e a r in
@@ -127,11 +128,11 @@ the-set-shows-it = none-above
 -- ---- plans: an accepted order has one that stands, and "The planner's output always stands"
 
 -- an accepted order has a plan that stands
-pub plan-exists : (order : List ℕ) (o : Order) → Accepts order o → (plan : List ℕ) × Stands o plan
+pub plan-exists : {last : ℕ} (order : List ℕ) (o : Order) → Accepts last order o → (plan : List ℕ) × Stands o plan
 plan-exists = accepted-plan
 
 -- planning it with room leaves a plan that stands, and counts its records
-pub planner-stands : (order before : List ℕ) (o : Order) → Accepts order o → planRoom ≤ length before → (r : Planned) (after : List ℕ) → Plans order before r after
+pub planner-stands : (order before : List ℕ) (o : Order) → Accepts lastOpenBay order o → planRoom ≤ length before → (r : Planned) (after : List ℕ) → Plans order before r after
     → (plan : List ℕ) × Stands o plan × (after ≡ overwritten before plan) × (r .answer ≡ done) × (length plan ≡ recordSize * (r .classes + r .slots))
 planner-stands order before o a room r after h =
     let l = planned order before o a room r after h in

@@ -24,18 +24,18 @@ use Rattle.demands.proofs.Demand3.WithoutFan.{rests, runs-others}
 use Rattle.model.proofs.Standing.{plan-line, plan-rate}
 use Rattle.model.proofs.Planner.{stand-read}
 
-module _ (order : List ℕ) (o : Order) (e : readOrder order ≡ read o) (plan : List ℕ) (st : Stands o plan) (d : ℕ) (dn : d < settingOf o .doses) where
+module _ (last : ℕ) (order : List ℕ) (o : Order) (e : readOrder last order ≡ read o) (plan : List ℕ) (st : Stands o plan) (d : ℕ) (dn : d < settingOf o .doses) where
   -- the slots of the plan
   abbrev slots : List Slot
   slots = slotsRead (planRecords plan)
 
   line : Line o slots d
-  line = plan-line o plan st (read-fits order o e) d dn
+  line = plan-line o plan st (read-fits last order o e) d dn
 
   -- the W and P of the dose's slots, its rate, are those of its class
   pub rate-of-its-class : (p : ℕ) (C : ℕ → Doses) → Classes (settingOf o) (fansPresent o) p C → (i : ℕ) → i < p → T (C i d)
       → (weightOf slots d ≡ W (settingOf o) (C i)) × (timeOf slots d ≡ classP (settingOf o) (fansPresent o) C i)
-  rate-of-its-class = plan-rate o plan st (read-fits order o e) d dn
+  rate-of-its-class = plan-rate o plan st (read-fits last order o e) d dn
 
   -- "the drawn amount is behind the exact one by less than a gram and never ahead"
   pub behind-never-ahead : (t : ℕ) → (drawn slots d t * timeOf slots d ≤ unitsBefore slots d t) × (unitsBefore slots d t < (drawn slots d t + 1) * timeOf slots d)
@@ -74,4 +74,4 @@ module _ (order : List ℕ) (o : Order) (e : readOrder order ≡ read o) (plan :
   -- "Inside its window a dose is without a fan only if every fan is running, each at that dose's rate or above"
   pub waits-only-while-all-fans-run : (q x : ℕ) → 0 < q → q * doseAt o d .release ≤ x → x < q * doseAt o d .deadline → (HasFan slots q x d → ⊥)
       → (f : ℕ) → 1 ≤ f → f ≤ o .fans → RunsAt slots q x f (weightOf slots d) (timeOf slots d)
-  waits-only-while-all-fans-run = runs-others o (read-fits order o e) (st .count) (st .sets) (st .classes) slots (stand-read st) d dn
+  waits-only-while-all-fans-run = runs-others o (read-fits last order o e) (st .count) (st .sets) (st .classes) slots (stand-read st) d dn

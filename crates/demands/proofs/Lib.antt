@@ -10,3 +10,4 @@ pub mod Demand2
 pub mod Demand3
 pub mod WholeSecond
 pub mod Log
+pub mod TrialBays

@@ -23,14 +23,14 @@ use Rattle.demands.proofs.Log.Stretches as stretches-of
 use Rattle.demands.proofs.Log.Given.{ReadAs, log-read-exactly}
 use Rattle.demands.proofs.Demand3.{all-from-the-deadline, never-falls, zero-up-to-the-start}
 
-module _ (order : List ℕ) (o : Order) (e : readOrder order ≡ read o) (plan : List ℕ) (st : Stands o plan) (d : ℕ) (dn : d < settingOf o .doses) where
+module _ (last : ℕ) (order : List ℕ) (o : Order) (e : readOrder last order ≡ read o) (plan : List ℕ) (st : Stands o plan) (d : ℕ) (dn : d < settingOf o .doses) where
   -- the line never falls, and never goes above the dose's grams
   up : NeverFalls (lineOf plan d)
-  up = never-falls order o e plan st d dn
+  up = never-falls last order o e plan st d dn
 
   at-most : (t : ℕ) → lineOf plan d t ≤ doseAt o d .grams
   at-most t =
-      omega (arith, up t (doseAt o d .deadline), all-from-the-deadline order o e plan st d dn (t + doseAt o d .deadline) (omega arith))
+      omega (arith, up t (doseAt o d .deadline), all-from-the-deadline last order o e plan st d dn (t + doseAt o d .deadline) (omega arith))
 
   module _ (log : List ℕ) (records : List Logged) (r : readLog (doseAt o d .bay) log ≡ read records) where
     is-read : ReadAs (doseAt o d .bay) log records
@@ -71,8 +71,8 @@ module _ (order : List ℕ) (o : Order) (e : readOrder order ≡ read o) (plan :
     pub whole-window-rise : AllKnown (stretches records) → firstTick records ≤ doseAt o d .release → doseAt o d .deadline ≤ lastTick records
         → told .risen ≡ gramParts * doseAt o d .grams
     whole-window-rise k early late =
-        let none-yet = zero-up-to-the-start order o e plan st d dn (firstTick records) early in
-        let all-by-then = all-from-the-deadline order o e plan st d dn (lastTick records) late in
+        let none-yet = zero-up-to-the-start last order o e plan st d dn (firstTick records) early in
+        let all-by-then = all-from-the-deadline last order o e plan st d dn (lastTick records) late in
         all-known-rise k .0 ∙ rw (none-yet, all-by-then) (omega arith)
 
     -- never more than the dose's grams

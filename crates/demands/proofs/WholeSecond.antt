@@ -33,7 +33,7 @@ pub record Still (slots : List Slot) (d t : ℕ) : Type 0 where
   pub units-same : unitsBefore slots d (t + 1) ≡ unitsBefore slots d t
   pub drawn-same : drawn slots d (t + 1) ≡ drawn slots d t
 
-module _ (order : List ℕ) (o : Order) (e : readOrder order ≡ read o) (plan : List ℕ) (st : Stands o plan) (d : ℕ) (dn : d < settingOf o .doses) (t : ℕ) where
+module _ (last : ℕ) (order : List ℕ) (o : Order) (e : readOrder last order ≡ read o) (plan : List ℕ) (st : Stands o plan) (d : ℕ) (dn : d < settingOf o .doses) (t : ℕ) where
   -- the slots of the plan
   abbrev slots : List Slot
   slots = slotsRead (planRecords plan)
@@ -159,7 +159,7 @@ module _ (order : List ℕ) (o : Order) (e : readOrder order ≡ read o) (plan :
       go (is-shut k l) = l
 
       back : {z : State} → StateMeans o slots d t z → t < doseAt o d .release → z ≡ shut
-      back (is-finished k) l = absurd (omega (arith, read-fits order o e .window d dn))
+      back (is-finished k) l = absurd (omega (arith, read-fits last order o e .window d dn))
       back (is-shut k m) l = refl
       back (is-idle r k n) l = absurd (omega arith)
       back (is-dosing r k f) l = absurd (omega arith)
@@ -218,7 +218,7 @@ module _ (order : List ℕ) (o : Order) (e : readOrder order ≡ read o) (plan :
   dosing-or-still = go means
     where
       line : Line o slots d
-      line = plan-line o plan st (read-fits order o e) d dn
+      line = plan-line o plan st (read-fits last order o e) d dn
 
       still : unitsBefore slots d (t + 1) ≡ unitsBefore slots d t → Still slots d t
       still r = record { units-same = r; drawn-same = rw r }

@@ -5,7 +5,7 @@ use mathlib.Core.List.{List}
 use Prim.Native.Nat.{ℕ, _+_, _<_, _≤_, min}
 use native.Mathlib.Omega.{arith}
 use lib.ListN.{length}
-use Rattle.model.specs.Limits.{week}
+use Rattle.model.specs.Limits.{mostBay, week}
 use Rattle.model.specs.Records.{read}
 use Rattle.model.specs.Orders.{readOrder}
 use Rattle.model.specs.Orders as orders
@@ -20,7 +20,7 @@ use Rattle.draw.specs.Drawing.{Drawable, Sound}
 use Rattle.draw.proofs.Points.{stands-drawable}
 
 -- the order that was read again
-held-again : (order : List ℕ) (r : Reading) → ReadFrom order r → (o : orders.Order) → readOrder order ≡ read o → r .order ≡ heldOrder o
+held-again : (order : List ℕ) (r : Reading) → ReadFrom mostBay order r → (o : orders.Order) → readOrder mostBay order ≡ read o → r .order ≡ heldOrder o
 unfolding heldReading
 held-again order r h o e = let w = h .whole in ap (λ (q : Reading). q .order) (w ∙ ap heldReading e)
 
@@ -28,7 +28,7 @@ held-count : (o : orders.Order) → heldOrder o .count ≡ length (o .doses)
 unfolding heldOrder
 held-count o = refl
 
-module _ {order plan : List ℕ} (s : Sound order plan) {r : Reading} (h : ReadFrom order r) (d t : ℕ) where
+module _ {order plan : List ℕ} (s : Sound order plan) {r : Reading} (h : ReadFrom mostBay order r) (d t : ℕ) where
   abbrev o : orders.Order
   o = s .read-order
 
@@ -36,7 +36,7 @@ module _ {order plan : List ℕ} (s : Sound order plan) {r : Reading} (h : ReadF
   count-again = rw (held-again order r h o (s .accepts .reads)) (held-count o)
 
   pub order-again : asOrder (r .order) ≡ o
-  order-again = rw (held-again order r h o (s .accepts .reads)) (as-held o (read-fits order o (s .accepts .reads) .few))
+  order-again = rw (held-again order r h o (s .accepts .reads)) (as-held o (read-fits mostBay order o (s .accepts .reads) .few))
 
   pub drawable : d < r .order .count → Drawable plan d
   drawable l = stands-drawable order o (s .accepts .reads) plan (s .stands) d (omega (arith, count-again))

@@ -8,7 +8,7 @@ use borrow.Author.Tests.{le-leb, lt-leb, le-ltb, lt-ltb}
 use lib.ListN.{getD}
 use mir.Syntax.{w32}
 use mir.Val.{Fits}
-use Rattle.model.specs.Limits.{mostGrams}
+use Rattle.model.specs.Limits.{mostBay, mostGrams}
 use Rattle.model.specs.Records.{read}
 use Rattle.model.specs.Orders.{doseAt, readOrder}
 use Rattle.model.specs.Orders as orders
@@ -79,7 +79,7 @@ module _ (b : List ℕ) (d : ℕ) (h : Drawable b d) where
 -- ---- in a plan that stands
 
 -- a dose of an order that was read, in plan bytes that stand for it
-pub stands-drawable : (order : List ℕ) (o : orders.Order) → readOrder order ≡ read o → (plan : List ℕ) → Stands o plan → (d : ℕ) → d < settingOf o .doses → Drawable plan d
+pub stands-drawable : (order : List ℕ) (o : orders.Order) → readOrder mostBay order ≡ read o → (plan : List ℕ) → Stands o plan → (d : ℕ) → d < settingOf o .doses → Drawable plan d
 stands-drawable order o e plan st d dn = record {
   records = planOf (classesOf o (st .count) (st .sets)) (st .slots);
   are = st .records;
@@ -101,7 +101,7 @@ stands-drawable order o e plan st d dn = record {
     read-slots = slotsRead (planRecords plan)
 
     fit : Fit o
-    fit = read-fits order o e
+    fit = read-fits mostBay order o e
 
     line : Line o read-slots d
     line = plan-line o plan st fit d dn

@@ -4,7 +4,7 @@ use mathlib.Core.Bool.{Bool, _&&_}
 use mathlib.Core.List.{List}
 use Prim.Native.Nat.{ℕ, _*_, _-_, _≤_, _<_, min}
 use lib.Dec.{eqb, ltb}
-use Rattle.model.specs.Limits.{mostFanTime, mostGrams}
+use Rattle.model.specs.Limits.{mostBay, mostFanTime, mostGrams}
 use Rattle.model.specs.Lists.{All}
 use Rattle.model.specs.Records.{pick, read, slotKind}
 use Rattle.model.specs.Plans.{PlanRecord, Slot, slotsIn, planRecords}
@@ -93,5 +93,5 @@ pub record Drawable (plan : List ℕ) (d : ℕ) : Type 0 where
 -- the order is accepted and the plan stands for it: what is left to check is 11 and 12
 pub record Sound (order plan : List ℕ) : Type 0 where
   pub read-order : Order
-  pub accepts : Accepts order read-order
+  pub accepts : Accepts mostBay order read-order
   pub stands : Stands read-order plan

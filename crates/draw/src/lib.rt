@@ -11,6 +11,7 @@ use records::slot_at;
 use records::starts;
 use steps::both;
 use steps::less;
+use steps::limits::MOST_BAY;
 use steps::limits::WEEK;
 use steps::product;
 use steps::smaller;
@@ -262,7 +263,7 @@ fn in_plan(order: &[u8], plan: &[u8], dose: usize, tick: u32) -> Drawn
     requires { ⌜ Sound (now order) (now plan) ⌝ }
     ensures { λ d. ⌜ Draws (now (order .entry)) (now (plan .entry)) dose tick (asDrawn d) ⌝ }
 {
-    let r = order::read_order(order);
+    let r = order::read_order(MOST_BAY, order);
     let o = r.order;
     let n = o.count;
     if n <= dose {

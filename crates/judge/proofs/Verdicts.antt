@@ -5,6 +5,7 @@ use Prim.Native.Nat.{ℕ}
 use native.Mathlib.Omega.{arith}
 use borrow.Author.Tests.{ne-eqb}
 use lib.Dec.{eqb}
+use Rattle.model.specs.Limits.{mostBay}
 use Rattle.model.specs.Records.{pick, read, refused}
 use Rattle.model.specs.Orders.{Order, readOrder}
 use Rattle.model.specs.Stands.{Stands}
@@ -15,7 +16,7 @@ use Rattle.judge.specs.declared.Judged.{Judged}
 use Rattle.judge.specs.declared.Judged.the-variants as is
 
 module _ (order plan : List ℕ) where
-  module _ (o : Order) (e : readOrder order ≡ read o) where
+  module _ (o : Order) (e : readOrder mostBay order ≡ read o) where
     -- plan bytes that stand
     pub judged-stands : Stands o plan → (r : Judged) → Against o is.Stands r → Verdict order plan r
     judged-stands st r (slow h) = record { answer = stands o (record { reads = e; slow = h }) st; numbered = tt }
@@ -27,7 +28,7 @@ module _ (order plan : List ℕ) where
     judged-falls fell r (fast A f t) = record { answer = refuses (tooFast o A) (above o A e f t); numbered = tt }
 
   -- the order's own refusal
-  pub judged-unread : (number place : ℕ) → readOrder order ≡ refused number place → Verdict order plan (is.Refused number place)
+  pub judged-unread : (number place : ℕ) → readOrder mostBay order ≡ refused number place → Verdict order plan (is.Refused number place)
   judged-unread number place e =
       record { answer = refuses (refusal number place) (unread number place e); numbered = unread-number order number place e }
 

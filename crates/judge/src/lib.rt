@@ -5,6 +5,7 @@ mod top; // top.rt: refusal 9
 use judge_clauses::rows;
 use order::Order;
 use records::RECORD_SIZE;
+use steps::limits::MOST_BAY;
 use steps::limits::MOST_DOSES;
 use steps::limits::MOST_INSTANTS;
 ghost use Prim.Native.Nat.{_/_, _≤_};
@@ -168,11 +169,12 @@ fn certify(o: Order, plan: &[u8]) -> Found
     )
 }
 
-// "Drawing checks 2 to 9 in the same order, then 10 ..; judging stops after 10." Any bytes, of any length.
+// "Drawing checks 2 to 9 in the same order, then 10 ..; judging stops after 10." Any bytes, of any length. Of trial bays: "Old orders and their
+// plans are still judged".
 pub fn judge(order: &[u8], plan: &[u8]) -> Judged
     ensures { λ r. ⌜ Verdict (now (order .entry)) (now (plan .entry)) r ⌝ }
 {
-    let r = order::read_order(order);
+    let r = order::read_order(MOST_BAY, order);
     if r.number != 0 {
         return Judged::Refused {
             number: r.number,

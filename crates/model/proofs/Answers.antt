@@ -1,12 +1,13 @@
 -- Answers are settled: refusals of an order, verdicts, points and pens are unique, and so is a plan where the shares are the same.
 use mathlib.Core.Path.{_≡_, refl, sym, ap, ap₂, subst, fun-ext, _∙_}
 use mathlib.Core.Bool.{true}
-use mathlib.Core.Logic.{_≢_}
+use mathlib.Core.Logic.{_≢_, _⊎_, inl, inr}
 use mathlib.Core.List.{List, [], _∷_, _++_, map}
 use Prim.Native.Nat.{ℕ, zero, suc, _+_, _*_, _≤_, _<_, _^_}
 use native.Mathlib.Omega.{arith}
 use borrow.Author.Tests.{ne-eqb}
 use lib.Dec.{T, eqb}
+use Rattle.model.specs.Limits.{mostBay}
 use Rattle.model.specs.Sets.{Doses}
 use Rattle.model.specs.Records.{pick, refused}
 use Rattle.model.specs.Orders.{Order, doseAt, readOrder}
@@ -28,13 +29,13 @@ use Rattle.model.proofs.Given.{given-exactly, row-number}
 
 -- ---- the order's answer
 
--- a refusal by reading is numbered 2 to 8
-pub unread-number : (order : List ℕ) (number place : ℕ) → readOrder order ≡ refused number place → (2 ≤ number) × (number ≤ 8)
-unread-number order number place e = row-number (given-exactly order number place .0 e)
+-- a refusal by reading is numbered 2 to 8, where every bay is open
+pub unread-number : (order : List ℕ) (number place : ℕ) → readOrder mostBay order ≡ refused number place → (2 ≤ number) × (number ≤ 8)
+unread-number order number place e = elim (row-number (given-exactly mostBay order number place .0 e)) [ inl n ↦ n | inr c ↦ absurd (omega (arith, c)) ]
 
 -- an order has one reading
-pub one-order : {order : List ℕ} {o o′ : Order} → Accepts order o → Accepts order o′ → o ≡ o′
-one-order {order} {o} {o′} a b = let e = a .reads in let f = b .reads in cc
+pub one-order : {last : ℕ} {order : List ℕ} {o o′ : Order} → Accepts last order o → Accepts last order o′ → o ≡ o′
+one-order {last} {order} {o} {o′} a b = let e = a .reads in let f = b .reads in cc
 
 -- two first classes are one set, with one number, W and P
 first-one : (o : Order) (A B : Doses) → FirstClass o A → FirstClass o B → tooFast o A ≡ tooFast o B
@@ -46,24 +47,35 @@ first-one o A B a b =
     λ i. record { number = 9; place = 0; set = set i; weight = weight i; time = time i }
 
 -- an order is refused in one way
-pub refuses-one : {order : List ℕ} {a b : Answer} → Refuses order a → Refuses order b → a ≡ b
+pub refuses-one : {last : ℕ} {order : List ℕ} {a b : Answer} → Refuses last order a → Refuses last order b → a ≡ b
 refuses-one (unread number place e) (unread number′ place′ e′) =
     let n : number ≡ number′ = cc in let p : place ≡ place′ = cc in ap₂ refusal n p
 refuses-one (unread number place e) (above o A f c t) = absurd (no-refusal number place o (sym e ∙ f))
 refuses-one (above o A f c t) (unread number place e) = absurd (no-refusal number place o (sym e ∙ f))
-refuses-one {order} (above o A f c t) (above o′ A′ f′ c′ t′) =
+refuses-one {last} {order} (above o A f c t) (above o′ A′ f′ c′ t′) =
     let same : o′ ≡ o = cc in
     first-one o A A′ c (subst (λ (o : Order). FirstClass o A′) same c′) ∙ ap (λ (o : Order). tooFast o A′) (sym same)
 
--- with a number from 2 to 9
-pub refuses-number : {order : List ℕ} {a : Answer} → Refuses order a → (2 ≤ a .number) × (a .number ≤ 9)
-refuses-number {order} (unread number place e) = let n = unread-number order number place e in (n .0, omega (arith, n))
-refuses-number (above o A f c t) = (omega arith, omega arith)
+-- with a number from 2 to 9, or 15 where a bay is closed
+pub refuses-number : {last : ℕ} {order : List ℕ} {a : Answer} → Refuses last order a → ((2 ≤ a .number) × (a .number ≤ 9)) ⊎ ((a .number ≡ 15) × (last < mostBay))
+refuses-number {last} {order} (unread number place e) = elim (row-number (given-exactly last order number place .0 e)) [
+  | inl n ↦ inl (n .0, omega (arith, n))
+  | inr c ↦ inr c
+]
+refuses-number (above o A f c t) = inl (omega arith, omega arith)
+
+-- where every bay is open, from 2 to 9
+pub refuses-open : {order : List ℕ} {a : Answer} → Refuses mostBay order a → (2 ≤ a .number) × (a .number ≤ 9)
+refuses-open r = elim (refuses-number r) [ inl n ↦ n | inr c ↦ absurd (omega (arith, c)) ]
+
+-- and never 0
+pub refuses-some : {last : ℕ} {order : List ℕ} {a : Answer} → Refuses last order a → a .number ≢ 0
+refuses-some r z = elim (refuses-number r) [ inl n ↦ omega (arith, n) | inr c ↦ omega (arith, c) ]
 
 -- and no order is refused and accepted
-pub refused-not-accepted : {order : List ℕ} {a : Answer} {o : Order} → Refuses order a → Accepts order o → ⊥
-refused-not-accepted {order} {a} {o} (unread number place e) g = no-refusal number place o (sym e ∙ g .reads)
-refused-not-accepted {order} {a} {o} (above o′ A f c t) g =
+pub refused-not-accepted : {last : ℕ} {order : List ℕ} {a : Answer} {o : Order} → Refuses last order a → Accepts last order o → ⊥
+refused-not-accepted {last} {order} {a} {o} (unread number place e) g = no-refusal number place o (sym e ∙ g .reads)
+refused-not-accepted {last} {order} {a} {o} (above o′ A f c t) g =
     let r = g .reads in
     let same : o′ ≡ o = cc in
     g .slow A (subst (λ (o : Order). FirstClass o A) same c) (subst (λ (o : Order). T (aboveTop o A)) same t)
@@ -83,19 +95,19 @@ judges-one {order} {plan} (Judges.stands o g h) (Judges.falls o′ g′ h′) = 
 judges-one (Judges.stands o g h) (Judges.stands o′ g′ h′) = refl
 
 -- a plan that is judged 0 stands
-pub judged-zero : {order plan : List ℕ} {a : Answer} → Judges order plan a → a .number ≡ 0 → (o : Order) × Accepts order o × Stands o plan
-judged-zero (Judges.refuses a r) z = absurd (omega (arith, refuses-number r))
+pub judged-zero : {order plan : List ℕ} {a : Answer} → Judges order plan a → a .number ≡ 0 → (o : Order) × Accepts mostBay order o × Stands o plan
+judged-zero (Judges.refuses a r) z = absurd (refuses-some r z)
 judged-zero (Judges.falls o g h) z = absurd (omega arith)
 judged-zero (Judges.stands o g h) z = (o, g, h)
 
 -- ---- points and pens
 
 -- a plan that stands is not refused
-stands-refused : {order plan : List ℕ} {a : Answer} {o : Order} → Judges order plan a → a .number ≢ 0 → Accepts order o → Stands o plan → ⊥
+stands-refused : {order plan : List ℕ} {a : Answer} {o : Order} → Judges order plan a → a .number ≢ 0 → Accepts mostBay order o → Stands o plan → ⊥
 stands-refused {o = o} j n g h = n (ap (λ (a : Answer). a .number) (judges-one j (Judges.stands o g h)))
 
 -- one order, one count of doses
-one-count : {order : List ℕ} {o o′ : Order} → Accepts order o → Accepts order o′ → settingOf o .doses ≡ settingOf o′ .doses
+one-count : {last : ℕ} {order : List ℕ} {o o′ : Order} → Accepts last order o → Accepts last order o′ → settingOf o .doses ≡ settingOf o′ .doses
 one-count g g′ = ap (λ (o : Order). settingOf o .doses) (one-order g g′)
 
 -- a dose at a tick has one point

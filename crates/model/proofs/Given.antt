@@ -1,4 +1,5 @@
--- Refusals 2 to 8 as the table of "What comes back" has them, "given exactly when": a row for each, with its place, and what comes before it passed.
+-- Refusals 2 to 8 and 15 as the table of "What comes back" has them, "given exactly when": a row for each, with its place, and what comes before it
+-- passed. `last` is the last bay that is open.
 use mathlib.Core.Bool.{Bool, true, false, not, _&&_, _||_}
 use mathlib.Core.Logic.{_↔_, _≢_, _⊎_, inl, inr}
 use mathlib.Core.Path.{_≡_, refl, sym, ap, _∙_}
@@ -11,11 +12,12 @@ use lib.Dec.{T, T-not, eqb, eqb-refl, eqb→eq, leb, leb→le, nleb→lt}
 use lib.Ieee.Bits.{is-false, is-true}
 use lib.ListN.{length, getD, length-append, List·getD-append}
 use lib.Seq.{getD-append-seam}
-use Rattle.model.specs.Limits.{mostDoses, orderRoom}
-use Rattle.model.specs.Records.{recordSize, pick, Reading, read, refused, andThen, fansParts, doseParts, blankAt, recordAt, readAll}
-use Rattle.model.specs.Orders.{Dose, noDose, Entry, fansEntry, doseEntry, fansOf, doseOf, fansFit, doseFits, checked, entryOf, fansIn, dosesIn, apart, clash, clashesAny, noClash, orderIn, restOf, orderOf, readOrder}
+use Rattle.model.specs.Limits.{mostBay, mostDoses, orderRoom}
+use Rattle.model.specs.Records.{recordSize, pick, Reading, read, refused, andThen, doseKind, fansParts, doseParts, blankAt, recordAt, readAll}
+use Rattle.model.specs.Orders.{Dose, noDose, Entry, fansEntry, doseEntry, fansOf, doseOf, fansFit, doseFits, bayOpen, checked, entryOf, fansIn, dosesIn, apart, clash, clashesAny, noClash, orderIn, restOf, orderOf, readOrder}
 use Rattle.model.proofs.Sums.{last}
 use Rattle.model.proofs.Fractions.{compare≤}
+use Rattle.model.proofs.Orders.{bay-most}
 use Rattle.model.proofs.Readings.{First, Listed, Says, refusal-says, says-pick, says-then, walk-read, walk-refused, walk-says}
 use Rattle.model.proofs.Sets.{and-left, and-right, or-elim, or-left, or-right}
 
@@ -36,11 +38,19 @@ pub data OutOfRange (r : List ℕ) : Type 0 where
   in-fans : getD r 0 0 ≡ 0x46 → T (blankAt fansParts r 0) → T (not (fansFit (fansOf r))) → OutOfRange r
   in-dose : getD r 0 0 ≡ 0x44 → T (blankAt doseParts r 0) → T (not (doseFits (doseOf r))) → OutOfRange r
 
--- "3, 4, 5 in that order"
-pub data RecordRow (r : List ℕ) : ℕ → Type 0 where
-  kind : OtherKind r → RecordRow r 3
-  blank : NotBlank r → RecordRow r 4
-  range : OutOfRange r → RecordRow r 5
+-- 15: a D with nothing else wrong, of a bay past the last that is open
+pub record ClosedBay (last : ℕ) (r : List ℕ) : Type 0 where
+  pub is-dose : getD r 0 0 ≡ doseKind
+  pub blank : T (blankAt doseParts r 0)
+  pub fits : T (doseFits (doseOf r))
+  pub closed : last < doseOf r .bay
+
+-- "3, 4, 5 in that order", and 15 "after 5 itself"
+pub data RecordRow (last : ℕ) (r : List ℕ) : ℕ → Type 0 where
+  kind : OtherKind r → RecordRow last r 3
+  blank : NotBlank r → RecordRow last r 4
+  range : OutOfRange r → RecordRow last r 5
+  bay : ClosedBay last r → RecordRow last r 15
 
 -- ---- the rows of an order
 
@@ -50,20 +60,20 @@ pub record Sized (order : List ℕ) : Type 0 where
   pub short : length order ≤ orderRoom
 
 -- record i is there, and all before it are read: "record by record"
-pub record Reached (order : List ℕ) (i : ℕ) : Type 0 where
+pub record Reached (last : ℕ) (order : List ℕ) (i : ℕ) : Type 0 where
   pub sized : Sized order
   pub there : i < length order / recordSize
-  pub earlier : (k : ℕ) → k < i → (e : Entry) × (entryOf (recordAt order k) k ≡ read e)
+  pub earlier : (k : ℕ) → k < i → (e : Entry) × (entryOf last (recordAt order k) k ≡ read e)
 
 -- what stands for a record past the last
 abbrev pub noEntry : Entry
 noEntry = doseEntry noDose
 
 -- all records are read: record k says what entry k is
-pub record Entries (order : List ℕ) (es : List Entry) : Type 0 where
+pub record Entries (last : ℕ) (order : List ℕ) (es : List Entry) : Type 0 where
   pub sized : Sized order
   pub count : length es ≡ length order / recordSize
-  pub each : (k : ℕ) → k < length es → entryOf (recordAt order k) k ≡ read (getD es k noEntry)
+  pub each : (k : ℕ) → k < length es → entryOf last (recordAt order k) k ≡ read (getD es k noEntry)
 
 -- "two doses of one bay with overlapping windows": each opens before the other has ended and rested; with no rest "touching is allowed"
 pub record Overlap (rest : ℕ) (x y : Dose) : Type 0 where
@@ -83,47 +93,49 @@ pub record OverlapsEarlier (rest : ℕ) (es : List Entry) (i : ℕ) : Type 0 whe
   pub overlap : Overlap rest dose other
 
 -- the table: number and place
-pub data Given (order : List ℕ) : ℕ → ℕ → Type 0 where
+pub data Given (last : ℕ) (order : List ℕ) : ℕ → ℕ → Type 0 where
   -- 2 "order length no multiple of 32, or over 1,600"
-  wrong-length : (length order % recordSize ≢ 0) ⊎ (orderRoom < length order) → Given order 2 0
-  -- 3, 4, 5: "Place is the record's index"
-  wrong-record : (number i : ℕ) → Reached order i → RecordRow (recordAt order i) number → Given order number i
+  wrong-length : (length order % recordSize ≢ 0) ⊎ (orderRoom < length order) → Given last order 2 0
+  -- 3, 4, 5: "Place is the record's index"; 15 "with the record's place"
+  wrong-record : (number i : ℕ) → Reached last order i → RecordRow last (recordAt order i) number → Given last order number i
   -- 6 "F records not exactly one"
-  not-one-fans : (es : List Entry) → Entries order es → length (fansIn es) ≢ 1 → Given order 6 0
+  not-one-fans : (es : List Entry) → Entries last order es → length (fansIn es) ≢ 1 → Given last order 6 0
   -- 7 "more than 24 doses"
-  many-doses : (es : List Entry) → Entries order es → length (fansIn es) ≡ 1 → mostDoses < length (dosesIn es) → Given order 7 0
+  many-doses : (es : List Entry) → Entries last order es → length (fansIn es) ≡ 1 → mostDoses < length (dosesIn es) → Given last order 7 0
   -- 8: place is "the record index of the first D that overlaps an earlier one"
-  overlapping : (es : List Entry) → Entries order es → length (fansIn es) ≡ 1 → length (dosesIn es) ≤ mostDoses
-      → (i : ℕ) → OverlapsEarlier (restOf (orderIn es)) es i → ((k : ℕ) → k < i → OverlapsEarlier (restOf (orderIn es)) es k → ⊥) → Given order 8 i
+  overlapping : (es : List Entry) → Entries last order es → length (fansIn es) ≡ 1 → length (dosesIn es) ≤ mostDoses
+      → (i : ℕ) → OverlapsEarlier (restOf (orderIn es)) es i → ((k : ℕ) → k < i → OverlapsEarlier (restOf (orderIn es)) es k → ⊥) → Given last order 8 i
 
 -- ---- one record
 
-module _ (r : List ℕ) (i : ℕ) where
+module _ (last : ℕ) (r : List ℕ) (i : ℕ) where
   abbrev AtRecord : ℕ → ℕ → Type 0
-  AtRecord number place = RecordRow r number × (place ≡ i)
+  AtRecord number place = RecordRow last r number × (place ≡ i)
 
-  entry-says : Says (entryOf r i) (λ e. Unit {0}) AtRecord
+  entry-says : Says (entryOf last r i) (λ e. Unit {0}) AtRecord
   unfolding entryOf
   entry-says =
       let fans = eqb (getD r 0 0) 0x46 in
       let dose = eqb (getD r 0 0) 0x44 in
       says-pick _ AtRecord fans _ _
-      (λ f. kept (blankAt fansParts r 0) (fansFit (fansOf r)) _ (λ u. NotBlank.in-fans (eqb→eq _ _ f) u) (λ b u. OutOfRange.in-fans (eqb→eq _ _ f) b u))
+      (λ f. kept (blankAt fansParts r 0) (fansFit (fansOf r)) true _ (λ u. NotBlank.in-fans (eqb→eq _ _ f) u) (λ b u. OutOfRange.in-fans (eqb→eq _ _ f) b u) (λ b t u. absurd u))
       (λ nf. says-pick _ AtRecord dose _ _
-      (λ d. kept (blankAt doseParts r 0) (doseFits (doseOf r)) _ (λ u. NotBlank.in-dose (eqb→eq _ _ d) u) (λ b u. OutOfRange.in-dose (eqb→eq _ _ d) b u))
+      (λ d. kept (blankAt doseParts r 0) (doseFits (doseOf r)) (bayOpen last (doseOf r)) _ (λ u. NotBlank.in-dose (eqb→eq _ _ d) u)
+      (λ b u. OutOfRange.in-dose (eqb→eq _ _ d) b u) (λ b t u. record { is-dose = eqb→eq _ _ d; blank = b; fits = t; closed = nleb→lt _ _ u }))
       (λ nd. (kind (record { not-fans = λ e. T-not fans nf (test 0x46 e); not-dose = λ e. T-not dose nd (test 0x44 e) }), refl)))
     where
       test : (n : ℕ) → getD r 0 0 ≡ n → T (eqb (getD r 0 0) n)
       test n e = rw e (eqb-refl n)
 
-      kept : (clear fits : Bool) (e : Entry) → (T (not clear) → NotBlank r) → (T clear → T (not fits) → OutOfRange r)
-          → Says (checked clear fits e i) (λ e. Unit {0}) AtRecord
-      kept true true e f g = tt
-      kept true false e f g = (range (g tt tt), refl)
-      kept false fits e f g = (blank (f tt), refl)
+      kept : (clear fits isOpen : Bool) (e : Entry) → (T (not clear) → NotBlank r) → (T clear → T (not fits) → OutOfRange r)
+          → (T clear → T fits → T (not isOpen) → ClosedBay last r) → Says (checked clear fits isOpen e i) (λ e. Unit {0}) AtRecord
+      kept true true true e f g h = tt
+      kept true true false e f g h = (bay (h tt tt tt), refl)
+      kept true false isOpen e f g h = (range (g tt tt), refl)
+      kept false fits isOpen e f g h = (blank (f tt), refl)
 
   -- a row gives its number
-  row-refuses : (number : ℕ) → RecordRow r number → entryOf r i ≡ refused number i
+  row-refuses : (number : ℕ) → RecordRow last r number → entryOf last r i ≡ refused number i
   unfolding entryOf
   row-refuses number (kind k) = rw (ne-eqb (getD r 0 0) 0x46 (k .not-fans), ne-eqb (getD r 0 0) 0x44 (k .not-dose))
   row-refuses number (blank (NotBlank.in-fans e u)) = rw (eq-eqb (getD r 0 0) 0x46 e, is-false (blankAt fansParts r 0) u)
@@ -133,11 +145,14 @@ module _ (r : List ℕ) (i : ℕ) where
       rw (eq-eqb (getD r 0 0) 0x46 e, is-true (blankAt fansParts r 0) b, is-false (fansFit (fansOf r)) u)
   row-refuses number (range (OutOfRange.in-dose e b u)) =
       rw (ne-eqb (getD r 0 0) 0x46 (λ f. omega arith), eq-eqb (getD r 0 0) 0x44 e, is-true (blankAt doseParts r 0) b, is-false (doseFits (doseOf r)) u)
+  row-refuses number (bay c) =
+      let e = c .is-dose in
+      rw (ne-eqb (getD r 0 0) 0x46 (λ f. omega arith), eq-eqb (getD r 0 0) 0x44 e, is-true (blankAt doseParts r 0) (c .blank), is-true (doseFits (doseOf r)) (c .fits), lt-leb (doseOf r .bay) last (c .closed))
 
   -- record i is refused exactly when its row says, with its index
-  pub record-exactly : (number place : ℕ) → (entryOf r i ≡ refused number place) ↔ (RecordRow r number × (place ≡ i))
+  pub record-exactly : (number place : ℕ) → (entryOf last r i ≡ refused number place) ↔ (RecordRow last r number × (place ≡ i))
   record-exactly number place = (
-    refusal-says _ AtRecord (entryOf r i) entry-says number place,
+    refusal-says _ AtRecord (entryOf last r i) entry-says number place,
     λ row. row-refuses number (row .0) ∙ ap (λ (k : ℕ). refused number k) (sym (row .1)),
   )
 
@@ -275,22 +290,22 @@ module _ (rest : ℕ) where
 
 -- ---- all rows
 
-module _ (order : List ℕ) where
+module _ (last : ℕ) (order : List ℕ) where
   abbrev sizedTest : Bool
   sizedTest = eqb (length order % recordSize) 0 && leb (length order) orderRoom
 
-  from-zero : (k : ℕ) → entryOf (recordAt order k) k ≡ entryOf (recordAt order (0 + k)) (0 + k)
-  from-zero k = ap (λ (h : ℕ). entryOf (recordAt order h) h) (sym (zero-add k))
+  from-zero : (k : ℕ) → entryOf last (recordAt order k) k ≡ entryOf last (recordAt order (0 + k)) (0 + k)
+  from-zero k = ap (λ (h : ℕ). entryOf last (recordAt order h) h) (sym (zero-add k))
 
-  order-says : Says (readOrder order) (λ o. Unit {0}) (Given order)
+  order-says : Says (readOrder last order) (λ o. Unit {0}) (Given last order)
   unfolding readOrder orderOf
   order-says =
-      says-pick _ (Given order) sizedTest _ _ (λ t. says-then _ (Given order) (Entries order) (readAll entryOf order) orderOf (records (sized t)) (λ es g.
+      says-pick _ (Given last order) sizedTest _ _ (λ t. says-then _ (Given last order) (Entries last order) (readAll (entryOf last) order) orderOf (records (sized t)) (λ es g.
       let one = eqb (length (fansIn es)) 1 in
       let few = leb (length (dosesIn es)) mostDoses in
-      says-pick _ (Given order) one _ _ (λ f.
-      says-pick _ (Given order) few _ _
-      (λ d. says-then _ (Given order) (λ ds. Unit {0}) (noClash (restOf (orderIn es)) [] 0 es) _ (overlaps es g (eqb→eq _ _ f) (leb→le _ _ d) (noClash (restOf (orderIn es)) [] 0 es) (first-clash (restOf (orderIn es)) es)) (λ ds u. tt))
+      says-pick _ (Given last order) one _ _ (λ f.
+      says-pick _ (Given last order) few _ _
+      (λ d. says-then _ (Given last order) (λ ds. Unit {0}) (noClash (restOf (orderIn es)) [] 0 es) _ (overlaps es g (eqb→eq _ _ f) (leb→le _ _ d) (noClash (restOf (orderIn es)) [] 0 es) (first-clash (restOf (orderIn es)) es)) (λ ds u. tt))
       (λ d. many-doses es g (eqb→eq _ _ f) (nleb→lt _ _ d)))
       (λ f. not-one-fans es g (λ e. T-not one f (rw e tt)))))
       (λ t. wrong-length (unsized (eqb (length order % recordSize) 0) refl t))
@@ -305,66 +320,68 @@ module _ (order : List ℕ) where
       unsized true e t = inr (nleb→lt _ _ t)
       unsized false e t = inl (eqb-false _ _ e)
 
-      records : Sized order → Says (readAll entryOf order) (Entries order) (Given order)
-      records z = go (readAll entryOf order) (walk-says entryOf order noEntry (length order / recordSize) 0)
+      records : Sized order → Says (readAll (entryOf last) order) (Entries last order) (Given last order)
+      records z = go (readAll (entryOf last) order) (walk-says (entryOf last) order noEntry (length order / recordSize) 0)
         where
-          go : (x : Reading (List Entry)) → Says x (Listed entryOf order noEntry 0 (length order / recordSize)) (First entryOf order noEntry 0 (length order / recordSize))
-              → Says x (Entries order) (Given order)
+          go : (x : Reading (List Entry)) → Says x (Listed (entryOf last) order noEntry 0 (length order / recordSize)) (First (entryOf last) order noEntry 0 (length order / recordSize))
+              → Says x (Entries last order) (Given last order)
           go (read es) s = record { sized = z; count = s .0; each = λ k l. from-zero k ∙ s .1 k (omega (arith, s .0)) }
           go (refused number place) s =
-              let r = refusal-says _ (AtRecord (recordAt order (s .0)) (s .0)) _ (entry-says (recordAt order (s .0)) (s .0)) number place (from-zero (s .0) ∙ s .3) in
+              let r = refusal-says _ (AtRecord last (recordAt order (s .0)) (s .0)) _ (entry-says last (recordAt order (s .0)) (s .0)) number place (from-zero (s .0) ∙ s .3) in
               rw (r .1) (wrong-record number (s .0) (record {
                 sized = z;
                 there = s .1;
                 earlier = λ k l. let e = s .2 k l in (e .0, from-zero k ∙ e .1);
               }) (r .0))
 
-      overlaps : (es : List Entry) → Entries order es → length (fansIn es) ≡ 1 → length (dosesIn es) ≤ mostDoses
-          → (x : Reading (List Dose)) → Says x (NoOverlaps (restOf (orderIn es)) es) (FirstOverlap (restOf (orderIn es)) es) → Says x (λ ds. Unit {0}) (Given order)
+      overlaps : (es : List Entry) → Entries last order es → length (fansIn es) ≡ 1 → length (dosesIn es) ≤ mostDoses
+          → (x : Reading (List Dose)) → Says x (NoOverlaps (restOf (orderIn es)) es) (FirstOverlap (restOf (orderIn es)) es) → Says x (λ ds. Unit {0}) (Given last order)
       overlaps es g one few (read ds) s = tt
       overlaps es g one few (refused number place) s = rw (s .0) (overlapping es g one few place (s .1) (s .2))
 
   -- 2 is passed
-  past-length : Sized order → readOrder order ≡ andThen (readAll entryOf order) orderOf
+  past-length : Sized order → readOrder last order ≡ andThen (readAll (entryOf last) order) orderOf
   unfolding readOrder
   past-length z = rw (eq-eqb (length order % recordSize) 0 (z .whole), le-leb (length order) orderRoom (z .short))
 
-  -- 3, 4, 5 are passed
-  past-records : (es : List Entry) → Entries order es → readOrder order ≡ orderOf es
+  -- 3, 4, 5 and 15 are passed
+  past-records : (es : List Entry) → Entries last order es → readOrder last order ≡ orderOf es
   past-records es g =
       past-length (g .sized)
       ∙ ap (λ (x : Reading (List Entry)). andThen x orderOf)
-      (walk-read entryOf order noEntry (length order / recordSize) 0 es (g .count, λ k l. sym (from-zero k) ∙ g .each k (omega (arith, g .count))))
+      (walk-read (entryOf last) order noEntry (length order / recordSize) 0 es (g .count, λ k l. sym (from-zero k) ∙ g .each k (omega (arith, g .count))))
 
   -- a row gives its number and place
-  row-given : (number place : ℕ) → Given order number place → readOrder order ≡ refused number place
+  row-given : (number place : ℕ) → Given last order number place → readOrder last order ≡ refused number place
   unfolding readOrder orderOf
   row-given number place (wrong-length w) = elim w [
     | inl h ↦ rw (ne-eqb (length order % recordSize) 0 h)
     | inr h ↦ unsized (eqb (length order % recordSize) 0) (lt-leb (length order) orderRoom h)
   ]
     where
-      unsized : (b : Bool) → leb (length order) orderRoom ≡ false → pick (b && leb (length order) orderRoom) (andThen (readAll entryOf order) orderOf) (refused 2 0) ≡ refused 2 0
+      unsized : (b : Bool) → leb (length order) orderRoom ≡ false → pick (b && leb (length order) orderRoom) (andThen (readAll (entryOf last) order) orderOf) (refused 2 0) ≡ refused 2 0
       unsized true e = rw e
       unsized false e = refl
   row-given number place (wrong-record n i r row) =
       past-length (r .sized)
       ∙ ap (λ (x : Reading (List Entry)). andThen x orderOf)
-      (walk-refused entryOf order noEntry (length order / recordSize) 0 n i (i, r .there, λ k l. let e = r .earlier k l in (e .0, sym (from-zero k) ∙ e .1), sym (from-zero i) ∙ row-refuses (recordAt order i) i n row))
+      (walk-refused (entryOf last) order noEntry (length order / recordSize) 0 n i (i, r .there, λ k l. let e = r .earlier k l in (e .0, sym (from-zero k) ∙ e .1), sym (from-zero i) ∙ row-refuses last (recordAt order i) i n row))
   row-given number place (not-one-fans es g h) = past-records es g ∙ rw (ne-eqb (length (fansIn es)) 1 h)
   row-given number place (many-doses es g one h) = past-records es g ∙ rw (one, lt-leb (length (dosesIn es)) mostDoses h)
   row-given number place (overlapping es g one few i o none) = past-records es g ∙ rw (one, le-leb (length (dosesIn es)) mostDoses few, clash-refuses (restOf (orderIn es)) es i o none)
 
   -- the table: a number and place are given exactly when their row says
-  pub given-exactly : (number place : ℕ) → (readOrder order ≡ refused number place) ↔ Given order number place
-  given-exactly number place = (refusal-says _ (Given order) (readOrder order) order-says number place, row-given number place)
+  pub given-exactly : (number place : ℕ) → (readOrder last order ≡ refused number place) ↔ Given last order number place
+  given-exactly number place = (refusal-says _ (Given last order) (readOrder last order) order-says number place, row-given number place)
 
--- the rows have the numbers 2 to 8
-pub row-number : {order : List ℕ} {number place : ℕ} → Given order number place → (2 ≤ number) × (number ≤ 8)
-row-number (wrong-length w) = (omega arith, omega arith)
-row-number (wrong-record n i r (kind k)) = (omega arith, omega arith)
-row-number (wrong-record n i r (blank b)) = (omega arith, omega arith)
-row-number (wrong-record n i r (range f)) = (omega arith, omega arith)
-row-number (not-one-fans es g h) = (omega arith, omega arith)
-row-number (many-doses es g one h) = (omega arith, omega arith)
-row-number (overlapping es g one few i o none) = (omega arith, omega arith)
+-- the rows have the numbers 2 to 8, and 15 where a bay is closed
+pub row-number : {last : ℕ} {order : List ℕ} {number place : ℕ} → Given last order number place
+    → ((2 ≤ number) × (number ≤ 8)) ⊎ ((number ≡ 15) × (last < mostBay))
+row-number (wrong-length w) = inl (omega arith, omega arith)
+row-number (wrong-record n i r (kind k)) = inl (omega arith, omega arith)
+row-number (wrong-record n i r (blank b)) = inl (omega arith, omega arith)
+row-number (wrong-record n i r (range f)) = inl (omega arith, omega arith)
+row-number {order = order} (wrong-record n i r (bay c)) = inr (refl, omega (arith, c .closed, bay-most (doseOf (recordAt order i)) (c .fits)))
+row-number (not-one-fans es g h) = inl (omega arith, omega arith)
+row-number (many-doses es g one h) = inl (omega arith, omega arith)
+row-number (overlapping es g one few i o none) = inl (omega arith, omega arith)

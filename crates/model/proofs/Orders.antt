@@ -1,5 +1,5 @@
--- What is known of an order that was read: every field is in its range, and windows of one bay are apart. Assumes nothing.
-use mathlib.Core.Path.{_≡_, refl, sym, _∙_}
+-- What is known of an order that was read: every field is in its range, every bay is open, and windows of one bay are apart. Assumes nothing.
+use mathlib.Core.Path.{_≡_, refl, sym, ap, _∙_}
 use mathlib.Core.Bool.{Bool, true, false, not, _&&_, _||_}
 use mathlib.Core.Logic.{_⊎_, inl, inr}
 use mathlib.Core.List.{List, [], _∷_, _++_, append-assoc, append-nil}
@@ -10,7 +10,7 @@ use lib.ListN.{length, getD}
 use Rattle.model.specs.Limits.{lastRelease, mostBay, mostDoses, mostFans, mostGrams, mostTop, orderRoom, week}
 use Rattle.model.specs.Lists.{All, none, also, Pairs, lone, then}
 use Rattle.model.specs.Records.{recordSize, pick, within, Reading, read, refused, andThen, fansParts, doseParts, blankAt, recordAt, readFrom, readAll}
-use Rattle.model.specs.Orders.{Fans, Dose, Order, noDose, doseAt, Entry, fansEntry, doseEntry, fansOf, doseOf, fansFit, doseFits, checked, entryOf, fansIn, dosesIn, apart, clash, clashesAny, noClash, orderWith, orderIn, restOf, orderOf, readOrder}
+use Rattle.model.specs.Orders.{Fans, Dose, Order, noDose, doseAt, Entry, fansEntry, doseEntry, fansOf, doseOf, fansFit, doseFits, bayOpen, checked, entryOf, fansIn, dosesIn, apart, clash, clashesAny, noClash, orderWith, orderIn, restOf, orderOf, readOrder}
 use Rattle.model.proofs.Sets.{and-left, and-right, or-elim}
 use Rattle.model.proofs.Lists.{All-at, Pairs-append, Pairs-at}
 
@@ -50,27 +50,31 @@ all-read P each h bytes i (suc n) l e =
 
 -- ---- one record
 
--- the fields of a record of an order are in their ranges
-unfoldable pub EntryFits : Entry → Type 0
-EntryFits (fansEntry f) = T (fansFit f)
-EntryFits (doseEntry d) = T (doseFits d)
+-- the fields of a record of an order are in their ranges, and its bay is open
+unfoldable pub EntryFits : ℕ → Entry → Type 0
+EntryFits last (fansEntry f) = T (fansFit f)
+EntryFits last (doseEntry d) = T (doseFits d) × T (bayOpen last d)
 
-entry-fits : (r : List ℕ) (i : ℕ) (e : Entry) → entryOf r i ≡ read e → EntryFits e
+entry-fits : (last : ℕ) (r : List ℕ) (i : ℕ) (e : Entry) → entryOf last r i ≡ read e → EntryFits last e
 unfolding entryOf EntryFits
-entry-fits r i e q = go (eqb (getD r 0 0) 0x46) q
+entry-fits last r i e q = go (eqb (getD r 0 0) 0x46) q
   where
     same : (a b : Entry) → read a ≡ read b → a ≡ b
     same a b z = cc
 
-    other : (b : Bool) → pick b (checked (blankAt doseParts r 0) (doseFits (doseOf r)) (doseEntry (doseOf r)) i) (refused 3 i) ≡ read e → EntryFits e
+    dose : Reading Entry
+    dose = checked (blankAt doseParts r 0) (doseFits (doseOf r)) (bayOpen last (doseOf r)) (doseEntry (doseOf r)) i
+
+    other : (b : Bool) → pick b dose (refused 3 i) ≡ read e → EntryFits last e
     other b z =
         let x = passed b _ 3 i e z in
         let y = passed (blankAt doseParts r 0) _ 4 i e (x .1) in
         let w = passed (doseFits (doseOf r)) _ 5 i e (y .1) in
-        rw (← same (doseEntry (doseOf r)) e (w .1)) (w .0)
+        let v = passed (bayOpen last (doseOf r)) _ 15 i e (w .1) in
+        rw (← same (doseEntry (doseOf r)) e (v .1)) (w .0, v .0)
 
-    go : (b : Bool) → pick b (checked (blankAt fansParts r 0) (fansFit (fansOf r)) (fansEntry (fansOf r)) i)
-        (pick (eqb (getD r 0 0) 0x44) (checked (blankAt doseParts r 0) (doseFits (doseOf r)) (doseEntry (doseOf r)) i) (refused 3 i)) ≡ read e → EntryFits e
+    go : (b : Bool) → pick b (checked (blankAt fansParts r 0) (fansFit (fansOf r)) true (fansEntry (fansOf r)) i)
+        (pick (eqb (getD r 0 0) 0x44) dose (refused 3 i)) ≡ read e → EntryFits last e
     go true z =
         let y = passed (blankAt fansParts r 0) _ 4 i e z in
         let w = passed (fansFit (fansOf r)) _ 5 i e (y .1) in
@@ -79,17 +83,17 @@ entry-fits r i e q = go (eqb (getD r 0 0) 0x46) q
 
 -- ---- all records
 
-fans-fit : (es : List Entry) → All EntryFits es → All (λ f. T (fansFit f)) (fansIn es)
+fans-fit : (last : ℕ) (es : List Entry) → All (EntryFits last) es → All (λ f. T (fansFit f)) (fansIn es)
 unfolding fansIn EntryFits
-fans-fit [] none = none
-fans-fit (fansEntry f ∷ es) (also p a) = also p (fans-fit es a)
-fans-fit (doseEntry d ∷ es) (also p a) = fans-fit es a
+fans-fit last [] none = none
+fans-fit last (fansEntry f ∷ es) (also p a) = also p (fans-fit last es a)
+fans-fit last (doseEntry d ∷ es) (also p a) = fans-fit last es a
 
-doses-fit : (es : List Entry) → All EntryFits es → All (λ d. T (doseFits d)) (dosesIn es)
+doses-fit : (last : ℕ) (es : List Entry) → All (EntryFits last) es → All (λ d. T (doseFits d) × T (bayOpen last d)) (dosesIn es)
 unfolding dosesIn EntryFits
-doses-fit [] none = none
-doses-fit (fansEntry f ∷ es) (also p a) = doses-fit es a
-doses-fit (doseEntry d ∷ es) (also p a) = also p (doses-fit es a)
+doses-fit last [] none = none
+doses-fit last (fansEntry f ∷ es) (also p a) = doses-fit last es a
+doses-fit last (doseEntry d ∷ es) (also p a) = also p (doses-fit last es a)
 
 -- ---- windows of one bay, for any length of rest
 
@@ -170,6 +174,10 @@ four true true true true t = (tt, tt, tt, tt)
 pub three : (a b c : Bool) → T (a && b && c) → T a × T b × T c
 three true true true t = (tt, tt, tt)
 
+-- "bay, 1 to 999"
+pub bay-most : (d : Dose) → T (doseFits d) → d .bay ≤ mostBay
+bay-most d t = in-range 1 mostBay (d .bay) (four (within 1 mostBay (d .bay)) _ _ _ t .0) .1
+
 dose-parts : (d : Dose) → T (doseFits d) → (d .release < d .deadline) × (d .deadline ≤ week) × (1 ≤ d .grams) × (d .grams ≤ mostGrams)
 dose-parts d t =
     let r = four (within 1 mostBay (d .bay)) (leb (d .release) lastRelease) (within (d .release + 1) week (d .deadline)) (within 1 mostGrams (d .grams)) t in
@@ -177,7 +185,7 @@ dose-parts d t =
     let grams = in-range 1 mostGrams (d .grams) (r .3) in
     (omega (arith, window .0), window .1, grams .0, grams .1)
 
-order-fits : (fs : List Fans) (ds : List Dose) → length fs ≡ 1 → All (λ f. T (fansFit f)) fs → length ds ≤ mostDoses → All (λ d. T (doseFits d)) ds
+order-fits : (fs : List Fans) (ds : List Dose) → length fs ≡ 1 → All (λ f. T (fansFit f)) fs → length ds ≤ mostDoses → ((k : ℕ) → k < length ds → T (doseFits (getD ds k noDose)))
     → Pairs (NoClash (restOf (orderWith fs ds))) ds → Fit (orderWith fs ds)
 order-fits [] ds one af few ad free = absurd (omega arith)
 order-fits (f ∷ fs) ds one (also p af) few ad free =
@@ -189,31 +197,74 @@ order-fits (f ∷ fs) ds one (also p af) few ad free =
       top-grams = in-range 1 mostTop (f .topGrams) (r .1) .0;
       top-seconds = in-range 1 mostTop (f .topSeconds) (r .2) .0;
       few = few;
-      window = λ k l. dose-parts (getD ds k noDose) (All-at noDose ad k l) .0;
-      week = λ k l. dose-parts (getD ds k noDose) (All-at noDose ad k l) .1;
-      some-grams = λ k l. dose-parts (getD ds k noDose) (All-at noDose ad k l) .2;
-      light = λ k l. dose-parts (getD ds k noDose) (All-at noDose ad k l) .3;
+      window = λ k l. dose-parts (getD ds k noDose) (ad k l) .0;
+      week = λ k l. dose-parts (getD ds k noDose) (ad k l) .1;
+      some-grams = λ k l. dose-parts (getD ds k noDose) (ad k l) .2;
+      light = λ k l. dose-parts (getD ds k noDose) (ad k l) .3;
       inlets = λ i k l q. apart-windows (restOf (orderWith (f ∷ fs) ds)) (getD ds i noDose) (getD ds k noDose) (Pairs-at noDose free i k l q);
     }
 
-entries-fit : (es : List Entry) (o : Order) → All EntryFits es → orderOf es ≡ read o → Fit o
+-- what records come to, where 6, 7 and 8 passed
+record Passed (es : List Entry) (o : Order) : Type 0 where
+  one : length (fansIn es) ≡ 1
+  few : length (dosesIn es) ≤ mostDoses
+  free : noClash (restOf (orderIn es)) [] 0 es ≡ read (dosesIn es)
+  is : o ≡ orderIn es
+
+records-passed : (es : List Entry) (o : Order) → orderOf es ≡ read o → Passed es o
 unfolding orderOf
-entries-fit es o all e =
+records-passed es o e =
     let rest = restOf (orderIn es) in
     let c = passed (eqb (length (fansIn es)) 1) _ 6 0 o e in
     let d = passed (leb (length (dosesIn es)) mostDoses) _ 7 0 o (c .1) in
     let f = went-on (noClash rest [] 0 es) _ o (d .1) in
     let g = doses-read rest [] 0 es (f .0) (f .1) in
-    rw (same (f .0) g (f .2))
-    (order-fits (fansIn es) (dosesIn es) (eqb→eq _ _ (c .0)) (fans-fit es all) (leb→le _ _ (d .0)) (doses-fit es all) (rw g at (clear rest [] 0 es (f .0) lone (f .1))))
+    record { one = eqb→eq _ _ (c .0); few = leb→le _ _ (d .0); free = f .1 ∙ ap read g; is = same (f .0) g (f .2) }
   where
     same : (ds : List Dose) → ds ≡ dosesIn es → read (orderWith (fansIn es) ds) ≡ read o → o ≡ orderIn es
     same ds g q = cc
 
--- an order that was read fits
-pub read-fits : (bytes : List ℕ) (o : Order) → readOrder bytes ≡ read o → Fit o
+-- the order is theirs, and its doses are
+pub order-in : (es : List Entry) (o : Order) → orderOf es ≡ read o → o ≡ orderIn es
+order-in es o e = records-passed es o e .is
+
+pub doses-of-records : (es : List Entry) → orderIn es .doses ≡ dosesIn es
+doses-of-records es = go (fansIn es)
+  where
+    go : (fs : List Fans) → orderWith fs (dosesIn es) .doses ≡ dosesIn es
+    go [] = refl
+    go (f ∷ fs) = refl
+
+-- the records of an order that was read
+record RecordsOf (last : ℕ) (o : Order) : Type 0 where
+  entries : List Entry
+  fit : All (EntryFits last) entries
+  passes : Passed entries o
+
+order-read : (last : ℕ) (bytes : List ℕ) (o : Order) → readOrder last bytes ≡ read o → RecordsOf last o
 unfolding readOrder
-read-fits bytes o e =
+order-read last bytes o e =
     let a = passed (eqb (length bytes % recordSize) 0 && leb (length bytes) orderRoom) _ 2 0 o e in
-    let b = went-on (readAll entryOf bytes) orderOf o (a .1) in
-    entries-fit (b .0) o (all-read EntryFits entryOf entry-fits bytes 0 (length bytes / recordSize) (b .0) (b .1)) (b .2)
+    let b = went-on (readAll (entryOf last) bytes) orderOf o (a .1) in
+    record {
+      entries = b .0;
+      fit = all-read (EntryFits last) (entryOf last) (entry-fits last) bytes 0 (length bytes / recordSize) (b .0) (b .1);
+      passes = records-passed (b .0) o (b .2);
+    }
+
+-- an order that was read fits
+pub read-fits : (last : ℕ) (bytes : List ℕ) (o : Order) → readOrder last bytes ≡ read o → Fit o
+read-fits last bytes o e =
+    let r = order-read last bytes o e in
+    let es = r .entries in
+    let p = r .passes in
+    let doses = doses-fit last es (r .fit) in
+    rw (p .is) (order-fits (fansIn es) (dosesIn es) (p .one) (fans-fit last es (r .fit)) (p .few) (λ k l. All-at noDose doses k l .0)
+    (clear (restOf (orderIn es)) [] 0 es (dosesIn es) lone (p .free)))
+
+-- and its doses' bays are open
+pub read-open : (last : ℕ) (bytes : List ℕ) (o : Order) → readOrder last bytes ≡ read o → (k : ℕ) → k < length (o .doses) → doseAt o k .bay ≤ last
+read-open last bytes o e =
+    let r = order-read last bytes o e in
+    let doses = doses-fit last (r .entries) (r .fit) in
+    rw (r .passes .is, doses-of-records (r .entries)) (λ k l. leb→le _ _ (All-at noDose doses k l .1))

@@ -1,4 +1,4 @@
--- What comes back (documents 01 and 02): numbers 0 to 14, places and values, and the sequence of checks of planning, judging, drawing, the
+-- What comes back (documents 01 and 02): numbers 0 to 15, places and values, and the sequence of checks of planning, judging, drawing, the
 -- pen and laying a log beside the plan.
 use mathlib.Core.Path.{_≡_}
 use mathlib.Core.Bool.{Bool, true}
@@ -7,7 +7,7 @@ use mathlib.Core.List.{List, _++_}
 use Prim.Native.Nat.{ℕ, _+_, _*_, _≤_, _<_}
 use lib.Dec.{T, ltb}
 use lib.ListN.{length, drop}
-use Rattle.model.specs.Limits.{planRoom, week}
+use Rattle.model.specs.Limits.{lastOpenBay, mostBay, planRoom, week}
 use Rattle.model.specs.Sets.{Doses}
 use Rattle.model.specs.Records.{Reading, read, refused}
 use Rattle.model.specs.Orders.{Order, doseAt, readOrder}
@@ -36,7 +36,7 @@ refusal number place = record { number = number; place = place; set = 0; weight 
 abbrev pub done : Answer
 done = refusal 0 0
 
--- ---- the order: 2 to 8, then 9
+-- ---- the order: 2 to 8 and 15, then 9; `last` is the last bay that is open
 
 -- the first class: the next of all doses, with no fan reserved
 abbrev pub FirstClass : Order → Doses → Type 0
@@ -57,13 +57,13 @@ tooFast o A = record {
 }
 
 -- the order is refused: by its reading, or by 9
-pub data Refuses (order : List ℕ) : Answer → Type 0 where
-  unread : (number place : ℕ) → readOrder order ≡ refused number place → Refuses order (refusal number place)
-  above : (o : Order) (A : Doses) → readOrder order ≡ read o → FirstClass o A → T (aboveTop o A) → Refuses order (tooFast o A)
+pub data Refuses (last : ℕ) (order : List ℕ) : Answer → Type 0 where
+  unread : (number place : ℕ) → readOrder last order ≡ refused number place → Refuses last order (refusal number place)
+  above : (o : Order) (A : Doses) → readOrder last order ≡ read o → FirstClass o A → T (aboveTop o A) → Refuses last order (tooFast o A)
 
 -- the order is accepted
-pub record Accepts (order : List ℕ) (o : Order) : Type 0 where
-  pub reads : readOrder order ≡ read o
+pub record Accepts (last : ℕ) (order : List ℕ) (o : Order) : Type 0 where
+  pub reads : readOrder last order ≡ read o
   pub slow : (A : Doses) → FirstClass o A → T (aboveTop o A) → ⊥
 
 -- ---- planning
@@ -87,21 +87,22 @@ abbrev pub planBytes : Order → ℕ → (ℕ → Doses) → (ℕ → ℕ → �
 planBytes o p C x = recordsBytes (planOf (classesOf o p C) (slotsOf o p C x))
 
 -- planning `order` into a buffer that held `before` answers a Planned and leaves the bytes of the last argument. "Planning checks 1, 2,
--- then record by record 3, 4, 5 in that order, then 6, 7, 8, 9." "Which valid shares are used is left open."
+-- then record by record 3, 4, 5 in that order" and 15, "then 6, 7, 8, 9." Of trial bays: "New orders that name them are not planned."
+-- "Which valid shares are used is left open."
 pub data Plans (order before : List ℕ) : Planned → List ℕ → Type 0 where
   no-room : length before < planRoom → Plans order before (record { answer = refusal 1 0; classes = 0; slots = 0 }) before
-  refuses : planRoom ≤ length before → (a : Answer) → Refuses order a → Plans order before (record { answer = a; classes = 0; slots = 0 }) before
-  plans : planRoom ≤ length before → (o : Order) → Accepts order o → (p : ℕ) (C : ℕ → Doses) → Classes (settingOf o) (fansPresent o) p C
+  refuses : planRoom ≤ length before → (a : Answer) → Refuses lastOpenBay order a → Plans order before (record { answer = a; classes = 0; slots = 0 }) before
+  plans : planRoom ≤ length before → (o : Order) → Accepts lastOpenBay order o → (p : ℕ) (C : ℕ → Doses) → Classes (settingOf o) (fansPresent o) p C
       → (x : ℕ → ℕ → ℕ → ℕ) → ValidShares o p C x
       → Plans order before (record { answer = done; classes = p; slots = length (slotsOf o p C x) }) (overwritten before (planBytes o p C x))
 
--- ---- judging: "checks 2 to 9 in the same order, then 10"
+-- ---- judging: "checks 2 to 9 in the same order, then 10". Of trial bays: "Old orders and their plans are still judged, drawn and replayed"
 
 -- judging plan bytes for an order
 pub data Judges (order plan : List ℕ) : Answer → Type 0 where
-  refuses : (a : Answer) → Refuses order a → Judges order plan a
-  falls : (o : Order) → Accepts order o → (Stands o plan → ⊥) → Judges order plan (refusal 10 0)
-  stands : (o : Order) → Accepts order o → Stands o plan → Judges order plan done
+  refuses : (a : Answer) → Refuses mostBay order a → Judges order plan a
+  falls : (o : Order) → Accepts mostBay order o → (Stands o plan → ⊥) → Judges order plan (refusal 10 0)
+  stands : (o : Order) → Accepts mostBay order o → Stands o plan → Judges order plan done
 
 -- ---- drawing: "then 10, 11, 12"
 
@@ -121,9 +122,9 @@ pointOf o plan d t = record { answer = done; point = pointAt o (slotsRead (planR
 -- drawing dose d at tick t, 11 "no such dose", 12 "tick over 604,800"
 pub data Draws (order plan : List ℕ) (d t : ℕ) : Drawn → Type 0 where
   refuses : (a : Answer) → Judges order plan a → a .number ≢ 0 → Draws order plan d t (noPoint a)
-  no-dose : (o : Order) → Accepts order o → Stands o plan → settingOf o .doses ≤ d → Draws order plan d t (noPoint (refusal 11 0))
-  too-late : (o : Order) → Accepts order o → Stands o plan → d < settingOf o .doses → week < t → Draws order plan d t (noPoint (refusal 12 0))
-  draws : (o : Order) → Accepts order o → Stands o plan → d < settingOf o .doses → t ≤ week → Draws order plan d t (pointOf o plan d t)
+  no-dose : (o : Order) → Accepts mostBay order o → Stands o plan → settingOf o .doses ≤ d → Draws order plan d t (noPoint (refusal 11 0))
+  too-late : (o : Order) → Accepts mostBay order o → Stands o plan → d < settingOf o .doses → week < t → Draws order plan d t (noPoint (refusal 12 0))
+  draws : (o : Order) → Accepts mostBay order o → Stands o plan → d < settingOf o .doses → t ≤ week → Draws order plan d t (pointOf o plan d t)
 
 -- ---- the pen: "it holds a dose and a tick, and its answer is the point at the new tick"
 
@@ -135,10 +136,10 @@ pub record Pen : Type 0 where
 -- "moved on by one tick"; "For a pen, 12 comes of the pen's tick before it moves." "A refusal changes no byte and no pen"
 pub data Moves (order plan : List ℕ) (pen : Pen) : Drawn → Pen → Type 0 where
   refuses : (a : Answer) → Judges order plan a → a .number ≢ 0 → Moves order plan pen (noPoint a) pen
-  no-dose : (o : Order) → Accepts order o → Stands o plan → settingOf o .doses ≤ pen .dose → Moves order plan pen (noPoint (refusal 11 0)) pen
-  at-end : (o : Order) → Accepts order o → Stands o plan → pen .dose < settingOf o .doses → week ≤ pen .tick
+  no-dose : (o : Order) → Accepts mostBay order o → Stands o plan → settingOf o .doses ≤ pen .dose → Moves order plan pen (noPoint (refusal 11 0)) pen
+  at-end : (o : Order) → Accepts mostBay order o → Stands o plan → pen .dose < settingOf o .doses → week ≤ pen .tick
       → Moves order plan pen (noPoint (refusal 12 0)) pen
-  moves : (o : Order) → Accepts order o → Stands o plan → pen .dose < settingOf o .doses → pen .tick < week
+  moves : (o : Order) → Accepts mostBay order o → Stands o plan → pen .dose < settingOf o .doses → pen .tick < week
       → Moves order plan pen (pointOf o plan (pen .dose) (pen .tick + 1)) (record { dose = pen .dose; tick = pen .tick + 1 })
 
 -- ---- a log beside the plan (document 02, C-11): drawing's checks 2 to 11, then 13, 14; "after 12's place", and no tick is given
@@ -164,6 +165,6 @@ laidBy line (refused number place) = notLaid (refusal number place)
 -- laying the bytes of a log beside dose d's line: "Given a dose and a plan that stands, report exactly .."
 pub data Lays (order plan : List ℕ) (d : ℕ) (log : List ℕ) : Laid → Type 0 where
   refuses : (a : Answer) → Judges order plan a → a .number ≢ 0 → Lays order plan d log (notLaid a)
-  no-dose : (o : Order) → Accepts order o → Stands o plan → settingOf o .doses ≤ d → Lays order plan d log (notLaid (refusal 11 0))
-  lays : (o : Order) → Accepts order o → Stands o plan → d < settingOf o .doses
+  no-dose : (o : Order) → Accepts mostBay order o → Stands o plan → settingOf o .doses ≤ d → Lays order plan d log (notLaid (refusal 11 0))
+  lays : (o : Order) → Accepts mostBay order o → Stands o plan → d < settingOf o .doses
       → Lays order plan d log (laidBy (lineOf plan d) (readLog (doseAt o d .bay) log))

@@ -5,7 +5,7 @@ use mathlib.Core.List.{List, [], _∷_}
 use Prim.Native.Nat.{ℕ, zero, suc, _-_, min}
 use lib.Dec.{T, eqb, leb}
 use lib.ListN.{length, getD}
-use Rattle.model.specs.Limits.{week}
+use Rattle.model.specs.Limits.{lastOpenBay, week}
 use Rattle.model.specs.Sets.{sum, Doses, weight}
 use Rattle.model.specs.Records.{Reading, read, refused, pick, numberAt, numberBytes, fieldsAt, blankAt, recordBytes, readFrom}
 use Rattle.model.specs.Orders.{Order, entryOf, fansIn, dosesIn, clashesAny, noClash, restOf, orderOf, readOrder}
@@ -196,9 +196,9 @@ unfoldable pub readingTest : Case → Reading Order → Bool
 readingTest c (refused number place) = sameAnswer (refusal number place) (c .answer) && not (eqb number 0) && nothingTest c
 readingTest c (read o) = pick (eqb (c .answer .number) 9) (fastTest o c) (planTest o c)
 
--- a row passes
+-- a row passes: planning reads its order so, and not as one with a trial bay, so that judging reads it alike
 unfoldable pub caseTest : Case → Bool
-caseTest c = readingTest c (readOrder (c .order))
+caseTest c = readingTest c (readOrder lastOpenBay (c .order)) && not (eqb (c .answer .number) 15)
 
 -- every row passes
 pub cases-pass : T (allIn caseTest cases)

@@ -5,10 +5,10 @@ use mathlib.Core.List.{List, [], _∷_, _++_}
 use Prim.Native.Nat.{ℕ, _+_, _≤_, _<_}
 use lib.Dec.{eqb}
 use lib.ListN.{length, getD}
-use Rattle.model.specs.Limits.{planRoom}
+use Rattle.model.specs.Limits.{mostBay, planRoom}
 use Rattle.model.specs.Sets.{Doses, Sub}
 use Rattle.model.specs.Lists.{All}
-use Rattle.model.specs.Records.{fansKind, doseKind, fansParts, doseParts, recordBytes, read}
+use Rattle.model.specs.Records.{fansKind, doseKind, fansParts, doseParts, classParts, recordBytes, read}
 use Rattle.model.specs.Orders.{Order, readOrder}
 use Rattle.model.specs.Classes.{Classes}
 use Rattle.model.specs.Intervals.{settingOf, fansPresent}
@@ -68,33 +68,40 @@ pub record SetsRight (c : Case) (o : Order) : Type 0 where
       → (p ≡ length (c .sets)) × ((i : ℕ) → i < p → SameDoses o (C i) (caseSets c i))
   pub records : c .classes ≡ classesOf o (length (c .sets)) (caseSets c)
 
--- the claim about a row
-pub record Right (c : Case) : Type 0 where
-  -- planning into any buffer that is large enough gives the row's answer, counts and plan
-  pub plans : (before : List ℕ) → planRoom ≤ length before → Plans (c .order) before (casePlanned c) (overwritten before (casePlan c))
+-- planning an order into any buffer that is large enough gives an answer and puts a plan in front of it
+pub record PlanningRight (order : List ℕ) (answer : Planned) (plan : List ℕ) : Type 0 where
+  pub plans : (before : List ℕ) → planRoom ≤ length before → Plans order before answer (overwritten before plan)
   -- and nothing else: a refused row has no other refusal, and a planned one no other slots, since its shares are forced
-  pub only : (before : List ℕ) → planRoom ≤ length before → (r : Planned) (after : List ℕ) → Plans (c .order) before r after
-      → (r ≡ casePlanned c) × (after ≡ overwritten before (casePlan c))
+  pub only : (before : List ℕ) → planRoom ≤ length before → (r : Planned) (after : List ℕ) → Plans order before r after
+      → (r ≡ answer) × (after ≡ overwritten before plan)
+
+-- judging and drawing a row
+pub record JudgingRight (c : Case) : Type 0 where
   -- a first class, as refusal 9 names it, has the doses of the row's first set
-  pub first : (o : Order) → readOrder (c .order) ≡ read o → (A : Doses) → FirstClass o A → SameDoses o A (caseSets c 0)
-  -- the classes of a row that is planned
-  pub sets : (o : Order) → Accepts (c .order) o → SetsRight c o
+  pub first : (o : Order) → readOrder mostBay (c .order) ≡ read o → (A : Doses) → FirstClass o A → SameDoses o A (caseSets c 0)
+  -- the classes of a row that is accepted
+  pub sets : (o : Order) → Accepts mostBay (c .order) o → SetsRight c o
   -- the row's plan is judged and drawn as the row says
   pub judged : Judges (c .order) (casePlan c) (c .answer)
   pub points : All (DrawingRight c) (c .points)
 
+-- the claim about a row: what planning it gives, and what judging and drawing its plan do
+pub record Right (c : Case) : Type 0 where
+  pub planning : PlanningRight (c .order) (casePlanned c) (casePlan c)
+  pub judging : JudgingRight c
+
 -- ---- the rows
 
 -- an F record
-abbrev F : ℕ → ℕ → ℕ → List ℕ
+abbrev pub F : ℕ → ℕ → ℕ → List ℕ
 F fans grams seconds = recordBytes fansParts (fansKind ∷ fans ∷ grams ∷ seconds ∷ [])
 
 -- a D record
-abbrev D : ℕ → ℕ → ℕ → ℕ → List ℕ
+abbrev pub D : ℕ → ℕ → ℕ → ℕ → List ℕ
 D bay release deadline grams = recordBytes doseParts (doseKind ∷ bay ∷ release ∷ deadline ∷ grams ∷ [])
 
 -- number, doses, W, P
-abbrev class : ℕ → ℕ → ℕ → ℕ → Class
+abbrev pub class : ℕ → ℕ → ℕ → ℕ → Class
 class number doses weight time = record { number = number; doses = doses; weight = weight; time = time }
 
 -- fan, dose, start tick and part, end tick and part, W, P, class
@@ -112,16 +119,16 @@ slot fan dose start part end endpart weight time number = record {
 }
 
 -- dose, tick, amount, state
-abbrev drawing : ℕ → ℕ → ℕ → State → Drawing
+abbrev pub drawing : ℕ → ℕ → ℕ → State → Drawing
 drawing dose tick amount state = record { dose = dose; tick = tick; point = record { amount = amount; state = state } }
 
 -- an order that is refused by its reading
-abbrev refusedCase : List ℕ → ℕ → ℕ → Case
+abbrev pub refusedCase : List ℕ → ℕ → ℕ → Case
 refusedCase order number place =
     record { order = order; answer = refusal number place; sets = []; shares = []; classes = []; slots = []; points = [] }
 
 -- refused 9 for a first class: its doses, the set as a number, W, P
-abbrev fastCase : List ℕ → List ℕ → ℕ → ℕ → ℕ → Case
+abbrev pub fastCase : List ℕ → List ℕ → ℕ → ℕ → ℕ → Case
 fastCase order doses set weight time = record {
   order = order;
   answer = record { number = 9; place = 0; set = set; weight = weight; time = time };
@@ -132,16 +139,32 @@ fastCase order doses set weight time = record {
   points = [];
 }
 
--- P1's doses and plan, under any top rate
-abbrev pub oneFan : ℕ → ℕ → Case
-oneFan topGrams topSeconds = record {
-  order = F 1 topGrams topSeconds ++ D 1 0 10 20 ++ D 2 0 4 16;
+-- P1's doses and plan, for any bytes of that order
+abbrev pub oneFanOrder : List ℕ → Case
+oneFanOrder order = record {
+  order = order;
   answer = done;
   sets = (1 ∷ []) ∷ (0 ∷ []) ∷ [];
   shares = ([] ∷ (64 ∷ 0 ∷ []) ∷ []) ∷ ((0 ∷ 120 ∷ []) ∷ []) ∷ [];
   classes = class 1 1 16 4 ∷ class 2 1 20 6 ∷ [];
   slots = slot 1 1 0 0 4 0 16 4 1 ∷ slot 1 0 4 0 10 0 20 6 2 ∷ [];
   points = drawing 0 4 0 (dosing 1) ∷ drawing 0 5 3 (dosing 1) ∷ drawing 0 6 6 (dosing 1) ∷ drawing 0 7 10 (dosing 1) ∷ drawing 0 10 20 finished ∷ [];
+}
+
+-- under any top rate
+abbrev pub oneFan : ℕ → ℕ → Case
+oneFan topGrams topSeconds = oneFanOrder (F 1 topGrams topSeconds ++ D 1 0 10 20 ++ D 2 0 4 16)
+
+-- P5's dose and plan, for any bytes of that order
+abbrev pub aloneOrder : List ℕ → Case
+aloneOrder order = record {
+  order = order;
+  answer = done;
+  sets = (0 ∷ []) ∷ [];
+  shares = ((50 ∷ []) ∷ []) ∷ [];
+  classes = class 1 1 10 5 ∷ [];
+  slots = slot 1 0 0 0 5 0 10 5 1 ∷ [];
+  points = drawing 0 604800 10 finished ∷ [];
 }
 
 -- "Doses as [release, deadline) grams, numbered from 0, each its own bay, top 1000/1 unless said."
@@ -180,15 +203,7 @@ cases =
       points = drawing 1 1 0 shut ∷ drawing 1 3 2 (dosing 1) ∷ [];
     }
     -- P5: two fans; [0,5) 10 alone
-    ∷ record {
-      order = F 2 1000 1 ++ D 1 0 5 10;
-      answer = done;
-      sets = (0 ∷ []) ∷ [];
-      shares = ((50 ∷ []) ∷ []) ∷ [];
-      classes = class 1 1 10 5 ∷ [];
-      slots = slot 1 0 0 0 5 0 10 5 1 ∷ [];
-      points = drawing 0 604800 10 finished ∷ [];
-    }
+    ∷ aloneOrder (F 2 1000 1 ++ D 1 0 5 10)
     -- P6: two fans; [0,2) 8, [0,4) 4. "dose 1 on fan 2, then fan 1"
     ∷ record {
       order = F 2 1000 1 ++ D 1 0 2 8 ++ D 2 0 4 4;
@@ -275,4 +290,13 @@ cases =
       points = drawing 0 0 0 (dosing 1) ∷ drawing 0 5 16 (dosing 1) ∷ drawing 0 6 20 idle ∷ drawing 0 9 20 idle ∷ drawing 0 10 20 finished
           ∷ drawing 1 5 0 shut ∷ drawing 1 6 0 (dosing 1) ∷ drawing 1 9 12 (dosing 1) ∷ [];
     }
+    -- C-14: bay 899 is no trial bay, and 1,000 is no bay: 5
+    ∷ aloneOrder (F 2 1000 1 ++ D 899 0 5 10)
+    ∷ refusedCase (F 2 1000 1 ++ D 1000 0 5 10) 5 1
+    -- C-14: a trial bay in a record with a field out of range, or with a byte that must be zero and isn't: 5 and 4 come first
+    ∷ refusedCase (F 2 1000 1 ++ D 900 0 5 0) 5 1
+    ∷ refusedCase (F 2 1000 1 ++ recordBytes classParts (doseKind ∷ 1 ∷ 900 ∷ 0 ∷ 5 ∷ [])) 4 1
+    -- C-14: a fault in an earlier record comes first, and so does 2
+    ∷ refusedCase (F 2 1000 1 ++ D 1 0 5 0 ++ D 900 0 5 10) 5 1
+    ∷ refusedCase (F 2 1000 1 ++ D 900 0 5 10 ++ 0 ∷ []) 2 0
     ∷ []

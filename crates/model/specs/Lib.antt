@@ -15,4 +15,5 @@ pub mod FreePlans
 pub mod Answers
 pub mod Cases
 pub mod CaseTests
+pub mod TrialCases
 pub mod LogCases

@@ -15,6 +15,10 @@ mostTop = 1000000
 abbrev pub mostBay : ℕ
 mostBay = 999
 
+-- "Bays 900 to 999" are trial bays, "and no house has one now": the last bay in front of them, and the last that a new order may name
+abbrev pub lastOpenBay : ℕ
+lastOpenBay = 899
+
 -- "604,800": the seconds of a week, the last deadline and the last tick
 abbrev pub week : ℕ
 week = 604800

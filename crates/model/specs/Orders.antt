@@ -1,5 +1,6 @@
--- Orders (document 01, "Records" and refusals 2 to 8): from any bytes to fans, top rate and doses, or the refusal with its place.
-use mathlib.Core.Bool.{Bool, false, not, _&&_, _||_}
+-- Orders (document 01, "Records" and refusals 2 to 8; document 02, C-14: 15): from any bytes to fans, top rate and doses, or the refusal with
+-- its place. Reading takes the last bay that is open: the caller says whether trial bays are.
+use mathlib.Core.Bool.{Bool, true, false, not, _&&_, _||_}
 use mathlib.Core.List.{List, [], _∷_, _++_}
 use Prim.Native.Nat.{ℕ, suc, _+_, _%_}
 use lib.Dec.{eqb, leb}
@@ -59,15 +60,20 @@ abbrev pub doseFits : Dose → Bool
 doseFits d =
     within 1 mostBay (d .bay) && leb (d .release) lastRelease && within (d .release + 1) week (d .deadline) && within 1 mostGrams (d .grams)
 
--- a record of known kind: 4 "a byte that must be zero isn't", then 5 "a field out of range"
-abbrev pub checked : Bool → Bool → Entry → ℕ → Reading Entry
-checked blank fits e i = pick blank (pick fits (read e) (refused 5 i)) (refused 4 i)
+-- the bay of a dose is open: it is not above the last one that is
+abbrev pub bayOpen : ℕ → Dose → Bool
+bayOpen last d = leb (d .bay) last
 
--- record i from its bytes: 3 "kind in an order neither F nor D", then 4, then 5, each with the record's index
-unfoldable pub entryOf : List ℕ → ℕ → Reading Entry
-entryOf r i =
-    pick (eqb (getD r 0 0) fansKind) (checked (blankAt fansParts r 0) (fansFit (fansOf r)) (fansEntry (fansOf r)) i)
-    (pick (eqb (getD r 0 0) doseKind) (checked (blankAt doseParts r 0) (doseFits (doseOf r)) (doseEntry (doseOf r)) i) (refused 3 i))
+-- a record of known kind: 4 "a byte that must be zero isn't", then 5 "a field out of range", then 15 for a bay that is not open: "in 5's
+-- place for that record after 5 itself, with the record's place"
+abbrev pub checked : Bool → Bool → Bool → Entry → ℕ → Reading Entry
+checked blank fits isOpen e i = pick blank (pick fits (pick isOpen (read e) (refused 15 i)) (refused 5 i)) (refused 4 i)
+
+-- record i from its bytes: 3 "kind in an order neither F nor D", then 4, then 5, then 15, each with the record's index
+unfoldable pub entryOf : ℕ → List ℕ → ℕ → Reading Entry
+entryOf last r i =
+    pick (eqb (getD r 0 0) fansKind) (checked (blankAt fansParts r 0) (fansFit (fansOf r)) true (fansEntry (fansOf r)) i)
+    (pick (eqb (getD r 0 0) doseKind) (checked (blankAt doseParts r 0) (doseFits (doseOf r)) (bayOpen last (doseOf r)) (doseEntry (doseOf r)) i) (refused 3 i))
 
 -- ---- all records
 
@@ -122,6 +128,7 @@ orderOf es =
     (pick (leb (length (dosesIn es)) mostDoses) (andThen (noClash (restOf (orderIn es)) [] 0 es) (λ ds. read (orderWith (fansIn es) ds))) (refused 7 0))
     (refused 6 0)
 
--- 2 "order length no multiple of 32, or over 1,600", "then record by record 3, 4, 5 in that order, then 6, 7, 8"
-unfoldable pub readOrder : List ℕ → Reading Order
-readOrder bytes = pick (eqb (length bytes % recordSize) 0 && leb (length bytes) orderRoom) (andThen (readAll entryOf bytes) orderOf) (refused 2 0)
+-- 2 "order length no multiple of 32, or over 1,600", "then record by record 3, 4, 5 in that order" and 15, "then 6, 7, 8"; bays are open up to
+-- the last that is: in planning lastOpenBay, in judging, drawing and laying a log mostBay, so that 15 comes in planning only
+unfoldable pub readOrder : ℕ → List ℕ → Reading Order
+readOrder last bytes = pick (eqb (length bytes % recordSize) 0 && leb (length bytes) orderRoom) (andThen (readAll (entryOf last) bytes) orderOf) (refused 2 0)

@@ -248,23 +248,23 @@ few-held (read o) (reads few) = few
 few-held (refused n p) refuses = omega arith
 
 -- the answer that the struct is for the bytes
-pub answers : (bytes : List ℕ) (r : code.Reading) → r ≡ heldReading (readOrder bytes) → ReadFrom bytes r
-answers bytes r e = record {
+pub answers : {last : ℕ} (bytes : List ℕ) (r : code.Reading) → r ≡ heldReading (readOrder last bytes) → ReadFrom last bytes r
+answers {last} bytes r e = record {
   whole = e;
-  says = ap (λ (q : code.Reading). asReading q) e ∙ as-reading (readOrder bytes) (each-read bytes);
-  few = rw e (few-held (readOrder bytes) (each-read bytes));
+  says = ap (λ (q : code.Reading). asReading q) e ∙ as-reading (readOrder last bytes) (each-read last bytes);
+  few = rw e (few-held (readOrder last bytes) (each-read last bytes));
 }
 
 -- two answers to the same bytes are the same
-pub one-answer : (bytes : List ℕ) (r q : code.Reading) → ReadFrom bytes r → ReadFrom bytes q → r ≡ q
+pub one-answer : {last : ℕ} (bytes : List ℕ) (r q : code.Reading) → ReadFrom last bytes r → ReadFrom last bytes q → r ≡ q
 one-answer bytes r q e f = e .whole ∙ sym (f .whole)
 
 -- number 0: the order was read, and is the one that the struct holds
-pub was-read : (bytes : List ℕ) (r : code.Reading) → ReadFrom bytes r → r .number ≡ 0 → readOrder bytes ≡ read (asOrder (r .order))
+pub was-read : {last : ℕ} (bytes : List ℕ) (r : code.Reading) → ReadFrom last bytes r → r .number ≡ 0 → readOrder last bytes ≡ read (asOrder (r .order))
 was-read bytes r e z = sym (e .says) ∙ sym (at-on (λ (x : Reading orders.Order). x) _ _ (sym (eq-eqb (r .number) 0 z)) refl)
 
 -- any other number: the order was refused by that number, with that place
-pub was-refused : (bytes : List ℕ) (r : code.Reading) → ReadFrom bytes r → (r .number ≡ 0 → ⊥) → readOrder bytes ≡ refused (r .number) (r .place)
+pub was-refused : {last : ℕ} (bytes : List ℕ) (r : code.Reading) → ReadFrom last bytes r → (r .number ≡ 0 → ⊥) → readOrder last bytes ≡ refused (r .number) (r .place)
 was-refused bytes r e z = sym (e .says) ∙ sym (at-off (λ (x : Reading orders.Order). x) _ _ (sym (ne-eqb (r .number) 0 z)) refl)
 
 -- ---- from the walk to the answer

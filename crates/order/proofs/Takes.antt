@@ -23,21 +23,24 @@ use Rattle.order.proofs.Entry.{the-type}
 
 -- ---- a record of known kind: its fault, or its fields
 
-pub fault-of : {A : Type 0} (fits : A → Bool) {n : ℕ} {p q b : Bool} {x y : A} → n ≡ faultOf p q → p ≡ b → q ≡ fits x → x ≡ y → n ≡ faultOf b (fits y)
-fault-of fits h e g r = h ∙ rw (e, g, r)
+pub fault-of : {A : Type 0} (fits isOpen : A → Bool) {n : ℕ} {p q s b : Bool} {x y : A} → n ≡ faultOf p q s → p ≡ b → q ≡ fits x → s ≡ isOpen x → x ≡ y
+    → n ≡ faultOf b (fits y) (isOpen y)
+fault-of fits isOpen h e g o r = h ∙ rw (e, g, o, r)
 
-pub faulty : {n : ℕ} (b f : Bool) (e : orders.Entry) (k : ℕ) → n ≡ faultOf b f → (n ≡ 0 → ⊥)
-    → is.Refused (record { number = n; place = k }) ≡ heldEntry (checked b f e k)
+pub faulty : {n : ℕ} (b f o : Bool) (e : orders.Entry) (k : ℕ) → n ≡ faultOf b f o → (n ≡ 0 → ⊥)
+    → is.Refused (record { number = n; place = k }) ≡ heldEntry (checked b f o e k)
 unfolding faultOf heldEntry
-faulty true true e k h z = absurd (z h)
-faulty true false e k h z = rw h
-faulty false f e k h z = rw h
+faulty true true true e k h z = absurd (z h)
+faulty true true false e k h z = rw h
+faulty true false o e k h z = rw h
+faulty false f o e k h z = rw h
 
-pub faultless : {n : ℕ} (b f : Bool) (e : orders.Entry) (k : ℕ) → n ≡ faultOf b f → n ≡ 0 → heldEntry (read e) ≡ heldEntry (checked b f e k)
+pub faultless : {n : ℕ} (b f o : Bool) (e : orders.Entry) (k : ℕ) → n ≡ faultOf b f o → n ≡ 0 → heldEntry (read e) ≡ heldEntry (checked b f o e k)
 unfolding faultOf
-faultless true true e k h z = refl
-faultless true false e k h z = absurd (let y : ⊥ = omega arith in y)
-faultless false f e k h z = absurd (let y : ⊥ = omega arith in y)
+faultless true true true e k h z = refl
+faultless true true false e k h z = absurd (let y : ⊥ = omega arith in y)
+faultless true false o e k h z = absurd (let y : ⊥ = omega arith in y)
+faultless false f o e k h z = absurd (let y : ⊥ = omega arith in y)
 
 -- ---- taken apart
 

@@ -11,7 +11,7 @@ use lib.Dec.{eqb, leb}
 use lib.ListN.{length, getD, length-append}
 use Rattle.model.specs.Limits.{mostDoses, orderRoom}
 use Rattle.model.specs.Records.{recordSize, pick, Reading, read, refused, andThen, blankAt, fansParts, doseParts, recordAt, readFrom}
-use Rattle.model.specs.Orders.{fansEntry, doseEntry, fansOf, doseOf, fansFit, doseFits, checked, entryOf, fansIn, dosesIn, noClash, clashesAny, orderWith, orderIn, restOf, orderOf, readOrder}
+use Rattle.model.specs.Orders.{fansEntry, doseEntry, fansOf, doseOf, fansFit, doseFits, bayOpen, checked, entryOf, fansIn, dosesIn, noClash, clashesAny, orderWith, orderIn, restOf, orderOf, readOrder}
 use Rattle.model.specs.Orders as orders
 use Rattle.order.proofs.Cases.{picked}
 use Rattle.order.specs.declared.Entry.{Entry}
@@ -48,20 +48,20 @@ each-map f refuses = refuses
 abbrev pub Any : {A : Type 0} → A → Type 0
 Any a = 0 < 1
 
-each-checked : (b f : Bool) (e : orders.Entry) (i : ℕ) → Each Any (checked b f e i)
-each-checked b f e i = each-pick b (each-pick f (reads (omega arith)) refuses) refuses
+each-checked : (b f o : Bool) (e : orders.Entry) (i : ℕ) → Each Any (checked b f o e i)
+each-checked b f o e i = each-pick b (each-pick f (each-pick o (reads (omega arith)) refuses) refuses) refuses
 
-pub each-entry : (r : List ℕ) (i : ℕ) → Each Any (entryOf r i)
+pub each-entry : (last : ℕ) (r : List ℕ) (i : ℕ) → Each Any (entryOf last r i)
 unfolding entryOf
-each-entry r i =
-    each-pick (eqb (getD r 0 0) 0x46) (each-checked (blankAt fansParts r 0) (fansFit (fansOf r)) (fansEntry (fansOf r)) i)
-    (each-pick (eqb (getD r 0 0) 0x44) (each-checked (blankAt doseParts r 0) (doseFits (doseOf r)) (doseEntry (doseOf r)) i) refuses)
+each-entry last r i =
+    each-pick (eqb (getD r 0 0) 0x46) (each-checked (blankAt fansParts r 0) (fansFit (fansOf r)) true (fansEntry (fansOf r)) i)
+    (each-pick (eqb (getD r 0 0) 0x44) (each-checked (blankAt doseParts r 0) (doseFits (doseOf r)) (bayOpen last (doseOf r)) (doseEntry (doseOf r)) i) refuses)
 
-pub each-from : (bytes : List ℕ) (i n : ℕ) → Each Any (readFrom entryOf bytes i n)
+pub each-from : (last : ℕ) (bytes : List ℕ) (i n : ℕ) → Each Any (readFrom (entryOf last) bytes i n)
 unfolding readFrom
-each-from bytes i zero = reads {a = []} (omega arith)
-each-from bytes i (suc n) =
-    each-then _ (each-entry _ i) (λ a p. each-then _ (each-from bytes (suc i) n) (λ l q. reads q))
+each-from last bytes i zero = reads {a = []} (omega arith)
+each-from last bytes i (suc n) =
+    each-then _ (each-entry last _ i) (λ a p. each-then _ (each-from last bytes (suc i) n) (λ l q. reads q))
 
 each-clash : (rest : ℕ) (es : List orders.Entry) (ds : List orders.Dose) (i : ℕ)
     → Each (λ (l : List orders.Dose). length l ≡ length ds + length (dosesIn es)) (noClash rest ds i es)
@@ -89,9 +89,9 @@ each-order es =
     refuses
 
 -- an order that was read has at most 24 doses
-pub each-read : (bytes : List ℕ) → Each (λ (o : orders.Order). length (o .doses) ≤ mostDoses) (readOrder bytes)
+pub each-read : (last : ℕ) (bytes : List ℕ) → Each (λ (o : orders.Order). length (o .doses) ≤ mostDoses) (readOrder last bytes)
 unfolding readOrder
-each-read bytes = each-pick (eqb (length bytes % recordSize) 0 && leb (length bytes) orderRoom) (each-then orderOf (each-from bytes 0 _) (λ es p. each-order es)) refuses
+each-read last bytes = each-pick (eqb (length bytes % recordSize) 0 && leb (length bytes) orderRoom) (each-then orderOf (each-from last bytes 0 _) (λ es p. each-order es)) refuses
 
 -- ---- one record
 
@@ -140,25 +140,26 @@ goes-at (read (doseEntry d)) (read l) s k n h = refl
 goes-at (read (doseEntry d)) (refused a b) s k n h = refl
 goes-at (refused a b) rest s k refuses h = absurd (let z : ⊥ = omega arith in z)
 
-stops : {w : Walked} (bytes : List ℕ) (k m : ℕ) (s : Gathered) → 0 < m → w ≡ taken s k (heldEntry (entryOf (recordAt bytes k) k))
-    → (w .number ≡ 0 → ⊥) → w ≡ walkedFrom (readFrom entryOf bytes k m) k s
-unfolding readFrom
-stops bytes k zero s h e f = absurd (let z : ⊥ = omega arith in z)
-stops bytes k (suc m) s h e f =
-    e ∙ stops-at (entryOf (recordAt bytes k) k) (readFrom entryOf bytes (suc k) m) s k (λ z. f (ap (λ (u : Walked). u .number) e ∙ z))
+module _ (last : ℕ) where
+  stops : {w : Walked} (bytes : List ℕ) (k m : ℕ) (s : Gathered) → 0 < m → w ≡ taken s k (heldEntry (entryOf last (recordAt bytes k) k))
+      → (w .number ≡ 0 → ⊥) → w ≡ walkedFrom (readFrom (entryOf last) bytes k m) k s
+  unfolding readFrom
+  stops bytes k zero s h e f = absurd (let z : ⊥ = omega arith in z)
+  stops bytes k (suc m) s h e f =
+      e ∙ stops-at (entryOf last (recordAt bytes k) k) (readFrom (entryOf last) bytes (suc k) m) s k (λ z. f (ap (λ (u : Walked). u .number) e ∙ z))
 
-goes : {w : Walked} (bytes : List ℕ) (k m : ℕ) (s : Gathered) → 0 < m → w ≡ taken s k (heldEntry (entryOf (recordAt bytes k) k))
-    → w .number ≡ 0 → walkedFrom (readFrom entryOf bytes (k + 1) (m - 1)) (k + 1) (w .gathered) ≡ walkedFrom (readFrom entryOf bytes k m) k s
-unfolding readFrom
-goes bytes k zero s h e f = absurd (let z : ⊥ = omega arith in z)
-goes {w} bytes k (suc m) s h e f =
-    let q : suc m - 1 ≡ m = omega arith in
-    let g = goes-at (entryOf (recordAt bytes k) k) (readFrom entryOf bytes (suc k) m) s k (each-entry _ k) (ap (λ (u : Walked). u .number) (sym e) ∙ f) in
-    rw (q, add-one k, e) g
+  goes : {w : Walked} (bytes : List ℕ) (k m : ℕ) (s : Gathered) → 0 < m → w ≡ taken s k (heldEntry (entryOf last (recordAt bytes k) k))
+      → w .number ≡ 0 → walkedFrom (readFrom (entryOf last) bytes (k + 1) (m - 1)) (k + 1) (w .gathered) ≡ walkedFrom (readFrom (entryOf last) bytes k m) k s
+  unfolding readFrom
+  goes bytes k zero s h e f = absurd (let z : ⊥ = omega arith in z)
+  goes {w} bytes k (suc m) s h e f =
+      let q : suc m - 1 ≡ m = omega arith in
+      let g = goes-at (entryOf last (recordAt bytes k) k) (readFrom (entryOf last) bytes (suc k) m) s k (each-entry last _ k) (ap (λ (u : Walked). u .number) (sym e) ∙ f) in
+      rw (q, add-one k, e) g
 
-ends : (bytes : List ℕ) (k m : ℕ) (s : Gathered) → m ≡ 0 → went s ≡ walkedFrom (readFrom entryOf bytes k m) k s
-unfolding readFrom walkedFrom adding
-ends bytes k m s e = rw e
+  ends : (bytes : List ℕ) (k m : ℕ) (s : Gathered) → m ≡ 0 → went s ≡ walkedFrom (readFrom (entryOf last) bytes k m) k s
+  unfolding readFrom walkedFrom adding
+  ends bytes k m s e = rw e
 
 empty : {s : Gathered} → s ≡ noRecords → (s .heads ≡ 0) × (s .doses ≡ 0)
 unfolding noRecords
@@ -167,41 +168,41 @@ empty e = rw e (refl, refl)
 -- ---- the walk so far
 
 -- the first k of n records are gathered in s; s and the records left come to what all come to
-pub record Walking (bytes : List ℕ) (n k : ℕ) (s : Gathered) : Type 0 where
+pub record Walking (last : ℕ) (bytes : List ℕ) (n k : ℕ) (s : Gathered) : Type 0 where
   pub within : k ≤ n
   pub whole : n ≡ length bytes / recordSize
   pub heads : s .heads ≤ k
   pub doses : s .doses ≤ k
-  pub comes : walkedFrom (readFrom entryOf bytes k (n - k)) k s ≡ walkedFrom (readFrom entryOf bytes 0 n) 0 noRecords
+  pub comes : walkedFrom (readFrom (entryOf last) bytes k (n - k)) k s ≡ walkedFrom (readFrom (entryOf last) bytes 0 n) 0 noRecords
 
-pub walking-none : {bytes : List ℕ} {n : ℕ} {s : Gathered} → n ≡ length bytes / recordSize → s ≡ noRecords → Walking bytes n 0 s
+pub walking-none : {last : ℕ} {bytes : List ℕ} {n : ℕ} {s : Gathered} → n ≡ length bytes / recordSize → s ≡ noRecords → Walking last bytes n 0 s
 walking-none {n = n} e q =
     let none = empty q in
     record { within = omega arith; whole = e; heads = omega (arith, none .0); doses = omega (arith, none .1); comes = rw (sub-zero n, q) refl }
 
-module _ {bytes : List ℕ} {n k : ℕ} {s : Gathered} (so-far : Walking bytes n k s) where
+module _ {last : ℕ} {bytes : List ℕ} {n k : ℕ} {s : Gathered} (so-far : Walking last bytes n k s) where
   -- every record is gathered
-  pub walking-ends : n ≤ k → went s ≡ walkedFrom (readFrom entryOf bytes 0 n) 0 noRecords
-  walking-ends h = ends bytes k (n - k) s (omega (arith, so-far .within)) ∙ so-far .comes
+  pub walking-ends : n ≤ k → went s ≡ walkedFrom (readFrom (entryOf last) bytes 0 n) 0 noRecords
+  walking-ends h = ends last bytes k (n - k) s (omega (arith, so-far .within)) ∙ so-far .comes
 
   -- record k is the part lent
-  module _ {w : Walked} (h : k < n) (took : w ≡ taken s k (heldEntry (entryOf (partAt bytes k) k))) where
-    own : w ≡ taken s k (heldEntry (entryOf (recordAt bytes k) k))
-    own = read-part (λ r. taken s k (heldEntry (entryOf r k))) bytes k took
+  module _ {w : Walked} (h : k < n) (took : w ≡ taken s k (heldEntry (entryOf last (partAt bytes k) k))) where
+    own : w ≡ taken s k (heldEntry (entryOf last (recordAt bytes k) k))
+    own = read-part (λ r. taken s k (heldEntry (entryOf last r k))) bytes k took
 
     -- it refuses
-    pub walking-stops : (w .number ≡ 0 → ⊥) → w ≡ walkedFrom (readFrom entryOf bytes 0 n) 0 noRecords
-    walking-stops f = stops bytes k (n - k) s (omega arith) own f ∙ so-far .comes
+    pub walking-stops : (w .number ≡ 0 → ⊥) → w ≡ walkedFrom (readFrom (entryOf last) bytes 0 n) 0 noRecords
+    walking-stops f = stops last bytes k (n - k) s (omega arith) own f ∙ so-far .comes
 
     -- it is gathered
-    pub walking-goes : w .number ≡ 0 → Walking bytes n (k + 1) (w .gathered)
+    pub walking-goes : w .number ≡ 0 → Walking last bytes n (k + 1) (w .gathered)
     walking-goes f =
-        let more = counts s k (heldEntry (entryOf (recordAt bytes k) k)) in
+        let more = counts s k (heldEntry (entryOf last (recordAt bytes k) k)) in
         let left : n - (k + 1) ≡ n - k - 1 = omega arith in
         record {
           within = omega arith;
           whole = so-far .whole;
           heads = omega (arith, so-far .heads, ap (λ (u : Walked). u .gathered .heads) own, more .0);
           doses = omega (arith, so-far .doses, ap (λ (u : Walked). u .gathered .doses) own, more .1);
-          comes = rw left (goes bytes k (n - k) s (omega arith) own f ∙ so-far .comes);
+          comes = rw left (goes last bytes k (n - k) s (omega arith) own f ∙ so-far .comes);
         }

@@ -1,5 +1,5 @@
 -- What the reader's steps come to, record by record. Only the contracts of private functions cite this page.
-use mathlib.Core.Bool.{Bool}
+use mathlib.Core.Bool.{Bool, true}
 use mathlib.Core.List.{List, [], _∷_}
 use Prim.Native.Nat.{ℕ, zero, suc, _+_}
 use lib.Dec.{eqb, leb, ltb}
@@ -7,7 +7,7 @@ use lib.ListN.{getD, set}
 use Rattle.model.specs.Limits.{mostDoses}
 use Rattle.model.specs.Records.{pick, read, refused, blankAt, fansParts, doseParts}
 use Rattle.model.specs.Records as records
-use Rattle.model.specs.Orders.{fansEntry, doseEntry, fansOf, doseOf, fansFit, doseFits, checked, clash, restOf}
+use Rattle.model.specs.Orders.{fansEntry, doseEntry, fansOf, doseOf, fansFit, doseFits, bayOpen, checked, clash, restOf}
 use Rattle.model.specs.Orders as orders
 use Rattle.records.specs.Held.{heldFans, heldDose}
 use Rattle.order.specs.Held.{heldEntry, doseHeld, asOrder, column, noOrder}
@@ -22,14 +22,14 @@ use Rattle.order.specs.declared.Walked.{Walked}
 
 -- ---- a record of known kind
 
-unfoldable pub faultOf : Bool → Bool → ℕ
-faultOf blank fits = pick blank (pick fits 0 5) 4
+unfoldable pub faultOf : Bool → Bool → Bool → ℕ
+faultOf blank fits isOpen = pick blank (pick fits (pick isOpen 0 15) 5) 4
 
 abbrev pub fansEntered : List ℕ → ℕ → Entry
-fansEntered r k = heldEntry (checked (blankAt fansParts r 0) (fansFit (fansOf r)) (fansEntry (fansOf r)) k)
+fansEntered r k = heldEntry (checked (blankAt fansParts r 0) (fansFit (fansOf r)) true (fansEntry (fansOf r)) k)
 
-abbrev pub doseEntered : List ℕ → ℕ → Entry
-doseEntered r k = heldEntry (checked (blankAt doseParts r 0) (doseFits (doseOf r)) (doseEntry (doseOf r)) k)
+abbrev pub doseEntered : ℕ → List ℕ → ℕ → Entry
+doseEntered last r k = heldEntry (checked (blankAt doseParts r 0) (doseFits (doseOf r)) (bayOpen last (doseOf r)) (doseEntry (doseOf r)) k)
 
 -- ---- one record more
 

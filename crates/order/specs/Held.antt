@@ -81,8 +81,8 @@ heldReading (refused number place) = record { number = number; place = place; or
 abbrev pub asReading : Reading → records.Reading orders.Order
 asReading r = pick (eqb (r .number) 0) (read (asOrder (r .order))) (refused (r .number) (r .place))
 
--- r is the answer for the bytes: the struct is settled whole, it says what document 01 does, and its doses fit the arrays
-pub record ReadFrom (bytes : List ℕ) (r : Reading) : Type 0 where
-  pub whole : r ≡ heldReading (readOrder bytes)
-  pub says : asReading r ≡ readOrder bytes
+-- r is the answer for the bytes, bays open up to `last`: the struct is settled whole, it says what documents 01 and 02 do, and its doses fit the arrays
+pub record ReadFrom (last : ℕ) (bytes : List ℕ) (r : Reading) : Type 0 where
+  pub whole : r ≡ heldReading (readOrder last bytes)
+  pub says : asReading r ≡ readOrder last bytes
   pub few : r .order .count ≤ mostDoses

@@ -1,4 +1,4 @@
-// Orders read from bytes (document 01, "Records" and refusals 2 to 8).
+// Orders read from bytes (document 01, "Records" and refusals 2 to 8; document 02, C-14: 15). The caller names the last bay that is open.
 mod record; // record.rt: one record
 
 use record::record_at;
@@ -190,11 +190,11 @@ fn add_other(s: Gathered, e: Entry) -> Walked
 }
 
 // What was gathered and record k, read from its 32 bytes; or the record's refusal.
-fn add_record(s: Gathered, r: &[u8], k: usize) -> Walked
+fn add_record(last: u32, s: Gathered, r: &[u8], k: usize) -> Walked
     requires { ⌜ (length (now r) ≡ 32) × (s .doses < mostRecords) × (s .heads < mostRecords) × (k < mostRecords) ⌝ }
-    ensures { λ w. ⌜ w ≡ taken s k (heldEntry (entryOf (now (r .entry)) k)) ⌝ }
+    ensures { λ w. ⌜ w ≡ taken s k (heldEntry (entryOf last (now (r .entry)) k)) ⌝ }
 {
-    let e = record_at(r, k);
+    let e = record_at(last, r, k);
     let Entry::Dose(d) = e else {
         return add_other(s, e);
     };
@@ -207,9 +207,9 @@ fn add_record(s: Gathered, r: &[u8], k: usize) -> Walked
 }
 
 // All records, one after the other, up to the first that is refused.
-fn walk(bytes: &[u8]) -> Walked
+fn walk(last: u32, bytes: &[u8]) -> Walked
     requires { ⌜ length (now bytes) ≤ orderRoom ⌝ }
-    ensures { λ w. ⌜ w ≡ walkedFrom (readAll entryOf (now (bytes .entry))) 0 noRecords ⌝ }
+    ensures { λ w. ⌜ w ≡ walkedFrom (readAll (entryOf last) (now (bytes .entry))) 0 noRecords ⌝ }
 {
     let n = bytes.len() / 32;
     let mut s = no_records();
@@ -217,7 +217,7 @@ fn walk(bytes: &[u8]) -> Walked
     while k < n {
         let a = 32 * k;
         let e = a + 32;
-        let w = add_record(s, &bytes[a..e], k);
+        let w = add_record(last, s, &bytes[a..e], k);
         if w.number != 0 {
             return w;
         }
@@ -348,9 +348,9 @@ fn settle(s: Gathered) -> Reading
     }
 }
 
-// The order in any bytes: "2, then record by record 3, 4, 5 in that order, then 6, 7, 8".
-pub fn read_order(bytes: &[u8]) -> Reading
-    ensures { λ r. ⌜ ReadFrom (now (bytes .entry)) r ⌝ }
+// The order in any bytes, bays open up to the last that is: "2, then record by record 3, 4, 5 in that order" and 15, "then 6, 7, 8".
+pub fn read_order(last: u32, bytes: &[u8]) -> Reading
+    ensures { λ r. ⌜ ReadFrom last (now (bytes .entry)) r ⌝ }
 {
     if bytes.len() % 32 != 0 {
         return refuse(2, 0);
@@ -358,7 +358,7 @@ pub fn read_order(bytes: &[u8]) -> Reading
     if ORDER_ROOM < bytes.len() {
         return refuse(2, 0);
     }
-    let w = walk(bytes);
+    let w = walk(last, bytes);
     if w.number != 0 {
         return refuse(w.number, w.place);
     }

@@ -1,4 +1,4 @@
-// One record from its 32 bytes (document 01, "Records" and refusals 3, 4, 5).
+// One record from its 32 bytes (document 01, "Records" and refusals 3, 4, 5; document 02, C-14: 15).
 use crate::Entry;
 use crate::Refusal;
 use records::DOSE_KIND;
@@ -19,7 +19,7 @@ use steps::limits::WEEK;
 ghost use mathlib.Core.Path.{_≡_};
 ghost use lib.ListN.{length};
 ghost use Rattle.model.specs.Records.{within, recordSize};
-ghost use Rattle.model.specs.Orders.{fansFit, doseFits, entryOf};
+ghost use Rattle.model.specs.Orders.{fansFit, doseFits, bayOpen, entryOf};
 ghost use Rattle.records.specs.Held.{asFans, asDose};
 ghost use Rattle.order.specs.Held.{heldEntry};
 ghost use Rattle.order.specs.Gathered.{faultOf, fansEntered, doseEntered};
@@ -58,15 +58,25 @@ fn dose_fits(d: Dose) -> bool
     inside(1, MOST_GRAMS, d.grams)
 }
 
-// "4 a byte that must be zero isn't", then "5 a field out of range"; 0 where neither is.
-fn fault(blank: bool, fits: bool) -> u32
-    ensures { λ n. ⌜ n ≡ faultOf blank fits ⌝ }
+// A dose of a bay up to the last that is open.
+fn bay_open(last: u32, d: Dose) -> bool
+    ensures { λ r. ⌜ r ≡ bayOpen last (asDose d) ⌝ }
+{
+    d.bay <= last
+}
+
+// "4 a byte that must be zero isn't", then "5 a field out of range", then 15 for a bay that is not open, "after 5 itself"; 0 where none is.
+fn fault(blank: bool, fits: bool, is_open: bool) -> u32
+    ensures { λ n. ⌜ n ≡ faultOf blank fits is_open ⌝ }
 {
     if !blank {
         return 4;
     }
     if !fits {
         return 5;
+    }
+    if !is_open {
+        return 15;
     }
     0
 }
@@ -76,7 +86,7 @@ fn fans_entry(r: &[u8], k: usize) -> Entry
     ensures { λ e. ⌜ e ≡ fansEntered (now (r .entry)) k ⌝ }
 {
     let f = fans_in(r);
-    let n = fault(fans_blank(r), fans_fit(f));
+    let n = fault(fans_blank(r), fans_fit(f), true);
     if n != 0 {
         return Entry::Refused(Refusal {
             number: n,
@@ -86,12 +96,12 @@ fn fans_entry(r: &[u8], k: usize) -> Entry
     Entry::Fans(f)
 }
 
-fn dose_entry(r: &[u8], k: usize) -> Entry
+fn dose_entry(last: u32, r: &[u8], k: usize) -> Entry
     requires { ⌜ length (now r) ≡ recordSize ⌝ }
-    ensures { λ e. ⌜ e ≡ doseEntered (now (r .entry)) k ⌝ }
+    ensures { λ e. ⌜ e ≡ doseEntered last (now (r .entry)) k ⌝ }
 {
     let d = dose_in(r);
-    let n = fault(dose_blank(r), dose_fits(d));
+    let n = fault(dose_blank(r), dose_fits(d), bay_open(last, d));
     if n != 0 {
         return Entry::Refused(Refusal {
             number: n,
@@ -101,17 +111,17 @@ fn dose_entry(r: &[u8], k: usize) -> Entry
     Entry::Dose(d)
 }
 
-// Record k from its 32 bytes: "record by record 3, 4, 5 in that order".
-pub fn record_at(r: &[u8], k: usize) -> Entry
+// Record k from its 32 bytes: "record by record 3, 4, 5 in that order", and 15.
+pub fn record_at(last: u32, r: &[u8], k: usize) -> Entry
     requires { ⌜ length (now r) ≡ recordSize ⌝ }
-    ensures { λ e. ⌜ e ≡ heldEntry (entryOf (now (r .entry)) k) ⌝ }
+    ensures { λ e. ⌜ e ≡ heldEntry (entryOf last (now (r .entry)) k) ⌝ }
 {
     let kind = kind_of(r);
     if kind == FANS_KIND {
         return fans_entry(r, k);
     }
     if kind == DOSE_KIND {
-        return dose_entry(r, k);
+        return dose_entry(last, r, k);
     }
     Entry::Refused(Refusal {
         number: 3,

@@ -1,8 +1,11 @@
-// Orders made here, read and printed: every refusal 2 to 8 with its place, the ends of every range, and instants.
+// Orders made here, read and printed: every refusal 2 to 8 and 15 with its place, the ends of every range, and instants. But for those with
+// trial bays, as old orders.
 use libc::STDOUT_FILENO;
 use order::Order;
 use records::Dose;
 use records::Fans;
+use steps::limits::LAST_OPEN_BAY;
+use steps::limits::MOST_BAY;
 ghost use Prim.Native.Nat.{_+_, _*_, _≤_, _<_};
 ghost use lib.ListN.{length};
 ghost use Rattle.model.specs.Limits.{mostDoses};
@@ -57,8 +60,8 @@ fn show_spans(o: Order)
     }
 }
 
-fn show(bytes: &[u8]) {
-    let r = order::read_order(bytes);
+fn show_read(last: u32, bytes: &[u8]) {
+    let r = order::read_order(last, bytes);
     if r.number != 0 {
         word(b"refused ");
         number(r.number);
@@ -75,6 +78,16 @@ fn show(bytes: &[u8]) {
     word(b" spans ");
     show_spans(o);
     word(b"\n");
+}
+
+fn show(bytes: &[u8]) {
+    show_read(MOST_BAY, bytes);
+}
+
+// As a new order, and as an old one.
+fn show_both(bytes: &[u8]) {
+    show_read(LAST_OPEN_BAY, bytes);
+    show_read(MOST_BAY, bytes);
 }
 
 fn show_front(bytes: &[u8], len: usize) {
@@ -244,6 +257,38 @@ fn heads() {
     show(&two);
 }
 
+fn trial_dose(bay: u32, grams: u32) {
+    let mut b = [0u8; 64];
+    put_fans(&mut b, 0, 1, 1000, 1);
+    put_dose(&mut b, 32, bay, 0, 1, grams);
+    show_both(&b);
+}
+
+// A dose of bay 1, one of a trial bay, and then one of bay 2: of the first and the last the grams.
+fn trial_between(first: u32, last: u32) {
+    let mut b = [0u8; 128];
+    put_dose(&mut b, 0, 1, 0, 1, first);
+    put_fans(&mut b, 32, 1, 1000, 1);
+    put_dose(&mut b, 64, 999, 0, 1, 1);
+    put_dose(&mut b, 96, 2, 0, 1, last);
+    show_both(&b);
+}
+
+fn trials() {
+    word(
+        b"trial bays: 899, 900, 999, 1000, and 900 without grams, as a new order and as an old one\n",
+    );
+    trial_dose(899, 1);
+    trial_dose(900, 1);
+    trial_dose(999, 1);
+    trial_dose(1000, 1);
+    trial_dose(900, 0);
+    word(b"in record 2: alone, behind a fault, before one\n");
+    trial_between(1, 1);
+    trial_between(0, 1);
+    trial_between(1, 0);
+}
+
 fn two_clashes() {
     word(b"two clashes, the first in record 3\n");
     let mut b = [0u8; 160];
@@ -265,4 +310,5 @@ fn main() {
     clashes();
     heads();
     two_clashes();
+    trials();
 }

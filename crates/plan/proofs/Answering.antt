@@ -4,7 +4,7 @@ use mathlib.Core.Path.{_≡_, ap, _∙_}
 use mathlib.Core.List.{List}
 use Prim.Native.Nat.{ℕ, _≤_, _<_}
 use lib.ListN.{length}
-use Rattle.model.specs.Limits.{planRoom}
+use Rattle.model.specs.Limits.{lastOpenBay, planRoom}
 use Rattle.model.specs.Orders.{Order, readOrder}
 use Rattle.model.specs.Records.{read, refused}
 use Rattle.model.specs.Layout.{slotsOf, tableSlots}
@@ -48,13 +48,13 @@ module _ (order before : List ℕ) where
   pub one : {r : answers.Planned} → length before < planRoom → r ≡ unplanned (refusal 1 0) → Plans order before r before
   one l e = rw e (no-room l)
 
-  -- 2 to 8
-  pub two-to-eight : {number place : ℕ} {r : answers.Planned} → planRoom ≤ length before → readOrder order ≡ refused number place
+  -- 2 to 8, and 15
+  pub by-reading : {number place : ℕ} {r : answers.Planned} → planRoom ≤ length before → readOrder lastOpenBay order ≡ refused number place
       → r ≡ unplanned (refusal number place) → Plans order before r before
-  two-to-eight {number} {place} l q e = rw e (refuses l (refusal number place) (unread number place q))
+  by-reading {number} {place} l q e = rw e (refuses l (refusal number place) (unread number place q))
 
   -- 9 or 0
-  pub nine-or-done : {o : Order} {r : answers.Planned} {after : List ℕ} → planRoom ≤ length before → readOrder order ≡ read o → PlansOrder o before r after
+  pub nine-or-done : {o : Order} {r : answers.Planned} {after : List ℕ} → planRoom ≤ length before → readOrder lastOpenBay order ≡ read o → PlansOrder o before r after
       → Plans order before r after
   nine-or-done {o} l q (above A f t) = refuses l _ (answers.above o A q f t)
   nine-or-done {o} l q (plans slow (writes p C c x v)) = answers.plans l o (record { reads = q; slow = slow }) p C c x v

@@ -6,6 +6,7 @@ use Prim.Native.Nat.{ℕ, _+_, _*_, _<_}
 use native.Mathlib.Omega.{arith}
 use lib.ListN.{drop, length}
 use lib.Seq.{drop-at}
+use Rattle.model.specs.Limits.{lastOpenBay}
 use Rattle.model.specs.Records.{recordSize}
 use Rattle.model.specs.Sets.{Doses}
 use Rattle.model.specs.Orders.{Order}
@@ -25,7 +26,7 @@ pub rest-unchanged : {order before after : List ℕ} {r : Planned} → Plans ord
 rest-unchanged (no-room small) = refl
 rest-unchanged (refuses l a h) = refl
 rest-unchanged {order} {before} (plans l o a p C c x v) =
-    let size = plan-length o (read-fits order o (a .reads)) p C c x v in
+    let size = plan-length o (read-fits lastOpenBay order o (a .reads)) p C c x v in
     drop-at (planBytes o p C x) (drop (length (planBytes o p C x)) before) _ size ∙ ap (λ (n : ℕ). drop n before) size
 
 -- a struct that says the same is the same
@@ -66,7 +67,7 @@ counted e f = rw (e, f)
 
 -- with the same shares: the same answer, counts and bytes
 pub same-shares : {order before after after′ : List ℕ} {r r′ : Planned} (h : Plans order before r after) (g : Plans order before r′ after′)
-    → ((o : Order) → Accepts order o → (i k j : ℕ) → i < r .classes → k < settingOf o .doses → j < settingOf o .intervals → sharesOf h i k j ≡ sharesOf g i k j)
+    → ((o : Order) → Accepts lastOpenBay order o → (i k j : ℕ) → i < r .classes → k < settingOf o .doses → j < settingOf o .intervals → sharesOf h i k j ≡ sharesOf g i k j)
     → (r ≡ r′) × (after ≡ after′)
 unfolding sharesOf
 same-shares (no-room small) (no-room small′) s = (refl, refl)
@@ -82,6 +83,6 @@ same-shares {order} {before} (plans l o a p C c x v) (plans l′ q b p′ C′ c
     let d : Classes (settingOf o) (fansPresent o) p′ C′ = subst (λ (y : Order). Classes (settingOf y) (fansPresent y) p′ C′) one c′ in
     let count = count-same o p p′ C C′ c d x x′ (s o a) in
     let bytes : planBytes o p C x ≡ planBytes q p′ C′ x′ = bytes-same o p p′ C C′ c d x x′ (s o a) ∙ ap (λ (y : Order). planBytes y p′ C′ x′) (sym one) in
-    let size = plan-length o (read-fits order o (a .reads)) p C c x v in
-    let size′ = plan-length q (read-fits order q (b .reads)) p′ C′ c′ x′ v′ in
+    let size = plan-length o (read-fits lastOpenBay order o (a .reads)) p C c x v in
+    let size′ = plan-length q (read-fits lastOpenBay order q (b .reads)) p′ C′ c′ x′ v′ in
     (counted count (omega (arith, ap length bytes)), ap (overwritten before) bytes)

@@ -7,6 +7,7 @@ use answer::answer_order;
 use answer::refused;
 use order::Order;
 use steps::limits::CELLS;
+use steps::limits::LAST_OPEN_BAY;
 use steps::limits::MOST_DOSES;
 use steps::limits::MOST_INTERVALS;
 use steps::limits::PLAN_ROOM;
@@ -41,14 +42,15 @@ fn plan_order(o: Order, plan: &mut [u8]) -> Planned
     answer_order(o, tally, &shares, &reserved, plan)
 }
 
-// "Planning checks 1, 2, then record by record 3, 4, 5 in that order, then 6, 7, 8, 9." "A refusal changes no byte".
+// "Planning checks 1, 2, then record by record 3, 4, 5 in that order" and 15, "then 6, 7, 8, 9." Of trial bays: "New orders that name them are
+// not planned." "A refusal changes no byte".
 pub fn plan(order: &[u8], plan: &mut [u8]) -> Planned
     ensures { λ r. ⌜ Plans (now (order .entry)) (now (plan .entry)) (asPlanned r) (now (plan .exit)) ⌝ }
 {
     if plan.len() < PLAN_ROOM {
         return refused(1, 0);
     }
-    let reading = order::read_order(order);
+    let reading = order::read_order(LAST_OPEN_BAY, order);
     if reading.number != 0 {
         return refused(reading.number, reading.place);
     }

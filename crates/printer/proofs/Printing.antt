@@ -4,7 +4,7 @@ use mathlib.Core.Bool.{Bool, true, false}
 use mathlib.Core.List.{List}
 use Prim.Native.Nat.{ℕ, _+_, _*_, _≤_}
 use native.Mathlib.Omega.{arith}
-use Rattle.model.specs.Limits.{planRoom}
+use Rattle.model.specs.Limits.{lastOpenBay, planRoom}
 use Rattle.model.specs.Records.{recordSize, pick}
 use lib.Dec.{eqb}
 use lib.ListN.{length}
@@ -21,7 +21,7 @@ pub few-records : {order before after : List ℕ} {r : Planned} → Plans order 
 few-records (no-room small) = omega arith
 few-records (refuses l a refuse) = omega arith
 few-records {order} (plans l o a p C c x v) =
-    let fit = read-fits order o (a .reads) in omega (arith, plan-length o fit p C c x v, plan-room o fit p C c x v)
+    let fit = read-fits lastOpenBay order o (a .reads) in omega (arith, plan-length o fit p C c x v, plan-room o fit p C c x v)
 
 -- an answer's text has no more than 160 bytes for each record and the line behind them
 pub answer-length : (r : Planned) (plan : List ℕ) → length (answerText r plan) ≤ 160 * (r .classes + r .slots + 1)

@@ -5,6 +5,8 @@ pub const MOST_TOP: u32 = 1000000;
 
 pub const MOST_BAY: u32 = 999;
 
+pub const LAST_OPEN_BAY: u32 = 899;
+
 pub const WEEK: u32 = 604800;
 
 pub const LAST_RELEASE: u32 = 604799;

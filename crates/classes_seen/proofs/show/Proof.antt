@@ -21,7 +21,7 @@ returns : tie.Need-returns
 returns c = search needs
 
 show-order-requires : tie.Need-show-order-requires
-show-order-requires c κs = read-fits _ _ (was-read _ _ (c .before .before .before .read-order .ensures) (c .before .if1 .left))
+show-order-requires c κs = read-fits _ _ _ (was-read _ _ (c .before .before .before .read-order .ensures) (c .before .if1 .left))
 
 returns-2 : tie.Need-returns-2
 returns-2 c = search needs

@@ -7,7 +7,7 @@ use Prim.Native.Nat.{ℕ, _-_, _≤_, _<_, min}
 use native.Mathlib.Omega.{arith}
 use lib.Dec.{T, leb→le}
 use lib.ListN.{length}
-use Rattle.model.specs.Limits.{planRoom}
+use Rattle.model.specs.Limits.{lastOpenBay, planRoom}
 use Rattle.model.specs.Sets.{Doses, sum}
 use Rattle.model.specs.Orders.{Order}
 use Rattle.model.specs.Classes.{Setting, Row, Classes, free}
@@ -61,7 +61,7 @@ module _ (S : Setting) (row : Row) (A : Doses) where
 
 -- ---- one plan
 
-module _ (order : List ℕ) (o : Order) (a : Accepts order o) (p : ℕ) (C : ℕ → Doses) (c : Classes (settingOf o) (fansPresent o) p C)
+module _ (order : List ℕ) (o : Order) (a : Accepts lastOpenBay order o) (p : ℕ) (C : ℕ → Doses) (c : Classes (settingOf o) (fansPresent o) p C)
     (x : ℕ → ℕ → ℕ → ℕ) (v : ValidShares o p C x)
     (forced : (i : ℕ) → i < p → T (allBelow (settingOf o .doses) (forcedTest (settingOf o) (free (settingOf o) (fansPresent o) C i) (C i)))) where
   abbrev S : Setting
@@ -87,7 +87,7 @@ module _ (order : List ℕ) (o : Order) (a : Accepts order o) (p : ℕ) (C : ℕ
     -- bytes of one length have as many slots
     same-count : length (slotsOf o p C′ x′) ≡ length (slotsOf o p C x)
     same-count =
-        let fit = read-fits order o (a .reads) in
+        let fit = read-fits lastOpenBay order o (a .reads) in
         omega (arith, plan-length o fit p C c x v, plan-length o fit p C′ c′ x′ v′, ap (λ (b : List ℕ). length b) same-bytes)
 
   -- planning with room answers and leaves this alone

@@ -7,7 +7,7 @@ use Prim.Native.Nat.{ℕ, zero, suc, _*_, _≤_, _<_}
 use native.Mathlib.Omega.{arith}
 use lib.Dec.{T}
 use lib.ListN.{length, getD}
-use Rattle.model.specs.Limits.{planRoom}
+use Rattle.model.specs.Limits.{mostBay, planRoom}
 use Rattle.model.specs.Sets.{Doses, sum, weight}
 use Rattle.model.specs.Lists.{total, All, none, also, Pairs, lone, then}
 use Rattle.model.specs.Records.{read, numberAt, numberBytes, fieldsAt, blankAt, recordBytes, readFrom}
@@ -146,23 +146,23 @@ right = head cases-right
     head (also p h) = p
 
 -- P1's bytes read as the order, which is accepted
-pub reads : readOrder (P1 .order) ≡ read o
+pub reads : readOrder mostBay (P1 .order) ≡ read o
 unfolding readOrder orderOf readFrom entryOf fieldsAt blankAt numberAt numberBytes recordBytes fansIn dosesIn clashesAny noClash restOf
 reads = refl
 
-accepts : Accepts (P1 .order) o
+accepts : Accepts mostBay (P1 .order) o
 accepts =
-    let s = judged-zero (right .judged) refl in
+    let s = judged-zero (right .judging .judged) refl in
     let f = s .1 .reads in
     let same : s .0 ≡ o = cc reads in
-    subst (λ (o : Order). Accepts (P1 .order) o) same (s .1)
+    subst (λ (o : Order). Accepts mostBay (P1 .order) o) same (s .1)
 
 -- the bytes stand
 pub split-stands : Stands o splitPlan
 split-stands =
-    let s = right .sets o accepts in
+    let s = right .judging .sets o accepts in
     subst (λ (l : List Class). Stands o (recordsBytes (planOf l split))) (sym (s .records))
-    (written-stands o (read-fits (P1 .order) o reads) 2 C (s .are) split slots-stand)
+    (written-stands o (read-fits mostBay (P1 .order) o reads) 2 C (s .are) split slots-stand)
 
 -- and are judged so
 pub split-judged : Judges (P1 .order) splitPlan done
@@ -172,5 +172,5 @@ split-judged = Judges.stands o accepts split-stands
 pub split-never-planned : (before : List ℕ) → planRoom ≤ length before → (r : Planned) → Plans (P1 .order) before r (overwritten before splitPlan) → ⊥
 unfolding recordsBytes planRecordBytes recordBytes numberBytes
 split-never-planned before room r h =
-    let end : _≡_ {A = ℕ} 5 10 = ap (λ (b : List ℕ). getD b 108 0) (right .only before room r (overwritten before splitPlan) h .1) in
+    let end : _≡_ {A = ℕ} 5 10 = ap (λ (b : List ℕ). getD b 108 0) (right .planning .only before room r (overwritten before splitPlan) h .1) in
     omega arith

@@ -5,7 +5,7 @@ use mathlib.Core.List.{List}
 use Prim.Native.Nat.{ℕ, _≤_}
 use native.Mathlib.Omega.{arith}
 use lib.ListN.{length}
-use Rattle.model.specs.Limits.{planRoom, week}
+use Rattle.model.specs.Limits.{lastOpenBay, mostBay, planRoom, week}
 use Rattle.model.specs.Records.{Reading, read, refused}
 use Rattle.model.specs.Orders.{Order, readOrder}
 use Rattle.model.specs.Intervals.{settingOf}
@@ -14,29 +14,29 @@ use Rattle.model.proofs.Fractions.{compare≤}
 use Rattle.model.proofs.Orders.{read-fits}
 use Rattle.demands.proofs.Existence.{classes-of, shares-of}
 use Rattle.demands.proofs.Demand1.Decided.{dec-stands}
-use Rattle.model.proofs.Answers.{refuses-number}
+use Rattle.model.proofs.Answers.{refuses-some}
 use Rattle.demands.proofs.Demand2.{accepted-or-refused}
 
 -- an order is accepted or refused
-pub order-decided : (order : List ℕ) → ((o : Order) × Accepts order o) ⊎ ((a : Answer) × Refuses order a)
-order-decided order = go (readOrder order) refl
+pub order-decided : (last : ℕ) (order : List ℕ) → ((o : Order) × Accepts last order o) ⊎ ((a : Answer) × Refuses last order a)
+order-decided last order = go (readOrder last order) refl
   where
-    go : (x : Reading Order) → readOrder order ≡ x → ((o : Order) × Accepts order o) ⊎ ((a : Answer) × Refuses order a)
-    go (read o) e = elim (accepted-or-refused order o e) [ inl a ↦ inl (o, a) | inr r ↦ inr r ]
+    go : (x : Reading Order) → readOrder last order ≡ x → ((o : Order) × Accepts last order o) ⊎ ((a : Answer) × Refuses last order a)
+    go (read o) e = elim (accepted-or-refused last order o e) [ inl a ↦ inl (o, a) | inr r ↦ inr r ]
     go (refused number place) e = inr (_, unread number place e)
 
 -- an accepted order is planned where there is room
-pub accepted-planned : (order before : List ℕ) → planRoom ≤ length before → (o : Order) → Accepts order o
+pub accepted-planned : (order before : List ℕ) → planRoom ≤ length before → (o : Order) → Accepts lastOpenBay order o
     → (r : Planned) × (after : List ℕ) × Plans order before r after × (r .answer ≡ done)
 accepted-planned order before room o g =
-    let c = classes-of o (read-fits order o (g .reads)) in
+    let c = classes-of o (read-fits lastOpenBay order o (g .reads)) in
     let v = shares-of o (c .0) (c .1) (c .2) in
     (_, _, Plans.plans room o g (c .0) (c .1) (c .2) (v .0) (v .1), refl)
 
 -- planning
 pub plans-some : (order before : List ℕ) → (r : Planned) × (after : List ℕ) × Plans order before r after
 plans-some order before = elim (compare≤ planRoom (length before)) [
-  | inl room ↦ elim (order-decided order) [
+  | inl room ↦ elim (order-decided lastOpenBay order) [
     | inl a ↦ let r = accepted-planned order before room (a .0) (a .1) in (r .0, r .1, r .2)
     | inr r ↦ (_, _, Plans.refuses room (r .0) (r .1))
   ]
@@ -45,8 +45,8 @@ plans-some order before = elim (compare≤ planRoom (length before)) [
 
 -- judging
 pub judges-some : (order plan : List ℕ) → (a : Answer) × Judges order plan a
-judges-some order plan = elim (order-decided order) [
-  | inl a ↦ elim (dec-stands (a .0) (read-fits order (a .0) (a .1 .reads)) plan) [
+judges-some order plan = elim (order-decided mostBay order) [
+  | inl a ↦ elim (dec-stands (a .0) (read-fits mostBay order (a .0) (a .1 .reads)) plan) [
     | yes st ↦ (_, Judges.stands (a .0) (a .1) st)
     | no h ↦ (_, Judges.falls (a .0) (a .1) h)
   ]
@@ -59,7 +59,7 @@ module _ (order plan : List ℕ) where
   draws-some d t = go (judges-some order plan .1)
     where
       go : {a : Answer} → Judges order plan a → (x : Drawn) × Draws order plan d t x
-      go (Judges.refuses a r) = (_, Draws.refuses a (Judges.refuses a r) (λ z. omega (arith, refuses-number r)))
+      go (Judges.refuses a r) = (_, Draws.refuses a (Judges.refuses a r) (refuses-some r))
       go (Judges.falls o g h) = (_, Draws.refuses _ (Judges.falls o g h) (omega arith))
       go (Judges.stands o g h) = elim (compare≤ (settingOf o .doses) d) [
         | inl l ↦ (_, Draws.no-dose o g h l)
@@ -71,7 +71,7 @@ module _ (order plan : List ℕ) where
   moves-some pen = go (judges-some order plan .1)
     where
       go : {a : Answer} → Judges order plan a → (x : Drawn) × (to : Pen) × Moves order plan pen x to
-      go (Judges.refuses a r) = (_, pen, Moves.refuses a (Judges.refuses a r) (λ z. omega (arith, refuses-number r)))
+      go (Judges.refuses a r) = (_, pen, Moves.refuses a (Judges.refuses a r) (refuses-some r))
       go (Judges.falls o g h) = (_, pen, Moves.refuses _ (Judges.falls o g h) (omega arith))
       go (Judges.stands o g h) = elim (compare≤ (settingOf o .doses) (pen .dose)) [
         | inl l ↦ (_, pen, Moves.no-dose o g h l)
@@ -83,7 +83,7 @@ module _ (order plan : List ℕ) where
   lays-some d log = go (judges-some order plan .1)
     where
       go : {a : Answer} → Judges order plan a → (x : Laid) × Lays order plan d log x
-      go (Judges.refuses a r) = (_, Lays.refuses a (Judges.refuses a r) (λ z. omega (arith, refuses-number r)))
+      go (Judges.refuses a r) = (_, Lays.refuses a (Judges.refuses a r) (refuses-some r))
       go (Judges.falls o g h) = (_, Lays.refuses _ (Judges.falls o g h) (omega arith))
       go (Judges.stands o g h) = elim (compare≤ (settingOf o .doses) d) [
         | inl l ↦ (_, Lays.no-dose o g h l)

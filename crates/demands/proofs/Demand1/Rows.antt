@@ -5,14 +5,14 @@ use mathlib.Core.List.{List}
 use Prim.Native.Nat.{ℕ, _≤_, _<_}
 use lib.ListN.{length}
 use native.Mathlib.Omega.{arith}
-use Rattle.model.specs.Limits.{planRoom, week}
+use Rattle.model.specs.Limits.{lastOpenBay, mostBay, planRoom, week}
 use Rattle.model.specs.Records.{read}
 use Rattle.model.specs.Orders.{Order, readOrder, Dose, doseAt, restOf}
 use Rattle.model.specs.Intervals.{settingOf}
 use Rattle.model.specs.Stands.{Stands}
 use Rattle.model.specs.Log.{Logged, readLog}
 use Rattle.model.specs.Answers.{Accepts, Answer, Drawn, Draws, Judges, Laid, Lays, Planned, Plans, Refuses, above, laidBy, lineOf, refusal, tooFast, unread}
-use Rattle.model.proofs.Given.{Given, given-exactly, Overlap, blank, kind, many-doses, not-one-fans, overlapping, range, wrong-length, wrong-record}
+use Rattle.model.proofs.Given.{Given, given-exactly, Overlap, bay, blank, kind, many-doses, not-one-fans, overlapping, range, wrong-length, wrong-record}
 use Rattle.demands.proofs.Demand2.Refusing.{TooFast}
 use Rattle.demands.proofs.Demand1.ByOrder.{OfOrder, order-accepted, order-refused}
 use Rattle.model.proofs.Answers.{draws-one, judges-one, lays-one}
@@ -20,17 +20,18 @@ use Rattle.demands.proofs.Demand1.Agreeing.{plans-agree}
 use Rattle.demands.proofs.Demand1.EveryCall.{accepted-planned}
 use Rattle.demands.proofs.Log.Given.{LogGiven, ReadAs, laid-either, log-given-exactly, log-read-exactly}
 
--- ---- rows 2 to 8
+-- ---- rows 2 to 8 and 15
 
 -- their place is "else 0"
-row-place : {order : List ℕ} {number place : ℕ} → Given order number place → number ≢ 3 → number ≢ 4 → number ≢ 5 → number ≢ 8 → place ≡ 0
-row-place (wrong-length w) a b c d = refl
-row-place (wrong-record n i r (kind k)) a b c d = absurd (a refl)
-row-place (wrong-record n i r (blank k)) a b c d = absurd (b refl)
-row-place (wrong-record n i r (range k)) a b c d = absurd (c refl)
-row-place (not-one-fans es g h) a b c d = refl
-row-place (many-doses es g one h) a b c d = refl
-row-place (overlapping es g one few i o none) a b c d = absurd (d refl)
+row-place : {last : ℕ} {order : List ℕ} {number place : ℕ} → Given last order number place → number ≢ 3 → number ≢ 4 → number ≢ 5 → number ≢ 8 → number ≢ 15 → place ≡ 0
+row-place (wrong-length w) a b c d e = refl
+row-place (wrong-record n i r (kind k)) a b c d e = absurd (a refl)
+row-place (wrong-record n i r (blank k)) a b c d e = absurd (b refl)
+row-place (wrong-record n i r (range k)) a b c d e = absurd (c refl)
+row-place (wrong-record n i r (bay k)) a b c d e = absurd (e refl)
+row-place (not-one-fans es g h) a b c d e = refl
+row-place (many-doses es g one h) a b c d e = refl
+row-place (overlapping es g one few i o none) a b c d e = absurd (d refl)
 
 -- an order asks for no rest: two of its doses overlap if they are of one bay and each window opens before the other ends
 pub no-rest : (o : Order) (x y : Dose) → Overlap (restOf o) x y ↔ ((x .bay ≡ y .bay) × (x .release < y .deadline) × (y .release < x .deadline))
@@ -42,53 +43,53 @@ no-rest o x y = (
 
 -- ---- the rows
 
--- of the order, 2 to 9
-pub data OrderRow (order : List ℕ) : ℕ → ℕ → Type 0 where
-  -- 2 to 8
-  reading : (number place : ℕ) → Given order number place → OrderRow order number place
+-- of the order, 2 to 9, and 15 where a bay is closed
+pub data OrderRow (last : ℕ) (order : List ℕ) : ℕ → ℕ → Type 0 where
+  -- 2 to 8, and 15
+  reading : (number place : ℕ) → Given last order number place → OrderRow last order number place
   -- 9 "first class: W × top seconds above P × top grams"
-  top-rate : (o : Order) → readOrder order ≡ read o → TooFast o → OrderRow order 9 0
+  top-rate : (o : Order) → readOrder last order ≡ read o → TooFast o → OrderRow last order 9 0
 
--- of planning: "checks 1, 2, then record by record 3, 4, 5 in that order, then 6, 7, 8, 9"
+-- of planning: "checks 1, 2, then record by record 3, 4, 5 in that order" and 15, "then 6, 7, 8, 9"
 pub data PlanningRow (order before : List ℕ) : ℕ → ℕ → Type 0 where
   -- 1 "plan buffer under 47,392 bytes"
   small : length before < planRoom → PlanningRow order before 1 0
-  -- 2 to 9
-  by-order : planRoom ≤ length before → (number place : ℕ) → OrderRow order number place → PlanningRow order before number place
+  -- 2 to 9, and 15
+  by-order : planRoom ≤ length before → (number place : ℕ) → OrderRow lastOpenBay order number place → PlanningRow order before number place
   -- 0 "done"
-  planned : planRoom ≤ length before → (o : Order) → Accepts order o → PlanningRow order before 0 0
+  planned : planRoom ≤ length before → (o : Order) → Accepts lastOpenBay order o → PlanningRow order before 0 0
 
 -- of judging: "2 to 9 in the same order, then 10"
 pub data JudgingRow (order plan : List ℕ) : ℕ → ℕ → Type 0 where
   -- 2 to 9
-  by-order : (number place : ℕ) → OrderRow order number place → JudgingRow order plan number place
+  by-order : (number place : ℕ) → OrderRow mostBay order number place → JudgingRow order plan number place
   -- 10 "plan bytes don't stand"
-  falls : (o : Order) → Accepts order o → (Stands o plan → ⊥) → JudgingRow order plan 10 0
+  falls : (o : Order) → Accepts mostBay order o → (Stands o plan → ⊥) → JudgingRow order plan 10 0
   -- 0 "done"
-  stands : (o : Order) → Accepts order o → Stands o plan → JudgingRow order plan 0 0
+  stands : (o : Order) → Accepts mostBay order o → Stands o plan → JudgingRow order plan 0 0
 
 -- of drawing dose d at tick t: "2 to 9 in the same order, then 10, 11, 12"
 pub data DrawingRow (order plan : List ℕ) (d t : ℕ) : ℕ → ℕ → Type 0 where
   -- 2 to 10
   by-judging : (number place : ℕ) → JudgingRow order plan number place → number ≢ 0 → DrawingRow order plan d t number place
   -- 11 "no such dose"
-  no-dose : (o : Order) → Accepts order o → Stands o plan → settingOf o .doses ≤ d → DrawingRow order plan d t 11 0
+  no-dose : (o : Order) → Accepts mostBay order o → Stands o plan → settingOf o .doses ≤ d → DrawingRow order plan d t 11 0
   -- 12 "tick over 604,800"
-  too-late : (o : Order) → Accepts order o → Stands o plan → d < settingOf o .doses → week < t → DrawingRow order plan d t 12 0
+  too-late : (o : Order) → Accepts mostBay order o → Stands o plan → d < settingOf o .doses → week < t → DrawingRow order plan d t 12 0
   -- 0 "done"
-  drawn : (o : Order) → Accepts order o → Stands o plan → d < settingOf o .doses → t ≤ week → DrawingRow order plan d t 0 0
+  drawn : (o : Order) → Accepts mostBay order o → Stands o plan → d < settingOf o .doses → t ≤ week → DrawingRow order plan d t 0 0
 
 -- of laying a log beside dose d's line: drawing's 2 to 11, "after 12's place, 13 .. then 14"
 pub data LayingRow (order plan : List ℕ) (d : ℕ) (log : List ℕ) : ℕ → ℕ → Type 0 where
   -- 2 to 10
   by-judging : (number place : ℕ) → JudgingRow order plan number place → number ≢ 0 → LayingRow order plan d log number place
   -- 11 "no such dose"
-  no-dose : (o : Order) → Accepts order o → Stands o plan → settingOf o .doses ≤ d → LayingRow order plan d log 11 0
+  no-dose : (o : Order) → Accepts mostBay order o → Stands o plan → settingOf o .doses ≤ d → LayingRow order plan d log 11 0
   -- 13 and 14
-  bad-log : (o : Order) → Accepts order o → Stands o plan → d < settingOf o .doses → (number place : ℕ) → LogGiven (doseAt o d .bay) log number place
+  bad-log : (o : Order) → Accepts mostBay order o → Stands o plan → d < settingOf o .doses → (number place : ℕ) → LogGiven (doseAt o d .bay) log number place
       → LayingRow order plan d log number place
   -- 0 "done"
-  laid : (o : Order) → Accepts order o → Stands o plan → d < settingOf o .doses → (records : List Logged) → ReadAs (doseAt o d .bay) log records
+  laid : (o : Order) → Accepts mostBay order o → Stands o plan → d < settingOf o .doses → (records : List Logged) → ReadAs (doseAt o d .bay) log records
       → LayingRow order plan d log 0 0
 
 -- a number and place are the answer's exactly when their row says
@@ -97,12 +98,12 @@ GivenExactly a Row = (number place : ℕ) → ((a .number ≡ number) × (a .pla
 
 -- ---- the order's
 
-order-row : {order : List ℕ} {a : Answer} → Refuses order a → OrderRow order (a .number) (a .place)
-order-row {order} (unread number place e) = reading number place (given-exactly order number place .0 e)
+order-row : {last : ℕ} {order : List ℕ} {a : Answer} → Refuses last order a → OrderRow last order (a .number) (a .place)
+order-row {last} {order} (unread number place e) = reading number place (given-exactly last order number place .0 e)
 order-row (above o A e c t) = top-rate o e (record { set = A; first = c; too-fast = t })
 
-row-refuses : {order : List ℕ} {number place : ℕ} → OrderRow order number place → (a : Answer) × Refuses order a × (a .number ≡ number) × (a .place ≡ place)
-row-refuses {order} (reading number place g) = (refusal number place, unread number place (given-exactly order number place .1 g), refl, refl)
+row-refuses : {last : ℕ} {order : List ℕ} {number place : ℕ} → OrderRow last order number place → (a : Answer) × Refuses last order a × (a .number ≡ number) × (a .place ≡ place)
+row-refuses {last} {order} (reading number place g) = (refusal number place, unread number place (given-exactly last order number place .1 g), refl, refl)
 row-refuses (top-rate o e f) = (tooFast o (f .set), above o (f .set) e (f .first) (f .too-fast), refl, refl)
 
 -- an answer that has its row, and that any row's answer is
@@ -201,26 +202,26 @@ module _ {order plan : List ℕ} where
 
 -- ---- "Fields not meant are 0"
 
--- place with 3, 4, 5, 8, 13 and 14 alone; set, W and P with 9 alone
+-- place with 3, 4, 5, 8, 13, 14 and 15 alone; set, W and P with 9 alone
 pub record OnlyMeant (a : Answer) : Type 0 where
-  pub place : a .number ≢ 3 → a .number ≢ 4 → a .number ≢ 5 → a .number ≢ 8 → a .number ≢ 13 → a .number ≢ 14 → a .place ≡ 0
+  pub place : a .number ≢ 3 → a .number ≢ 4 → a .number ≢ 5 → a .number ≢ 8 → a .number ≢ 13 → a .number ≢ 14 → a .number ≢ 15 → a .place ≡ 0
   pub set : a .number ≢ 9 → a .set ≡ 0
   pub weight : a .number ≢ 9 → a .weight ≡ 0
   pub time : a .number ≢ 9 → a .time ≡ 0
 
 no-place : (number : ℕ) → OnlyMeant (refusal number 0)
-no-place number = record { place = λ a b c d e f. refl; set = λ n. refl; weight = λ n. refl; time = λ n. refl }
+no-place number = record { place = λ a b c d e f g. refl; set = λ n. refl; weight = λ n. refl; time = λ n. refl }
 
-refused-meant : {order : List ℕ} {a : Answer} → Refuses order a → OnlyMeant a
-refused-meant {order} (unread number place e) =
-    record { place = λ a b c d f g. row-place (given-exactly order number place .0 e) a b c d; set = λ n. refl; weight = λ n. refl; time = λ n. refl }
+refused-meant : {last : ℕ} {order : List ℕ} {a : Answer} → Refuses last order a → OnlyMeant a
+refused-meant {last} {order} (unread number place e) =
+    record { place = λ a b c d f g h. row-place (given-exactly last order number place .0 e) a b c d h; set = λ n. refl; weight = λ n. refl; time = λ n. refl }
 refused-meant (above o A e c t) =
-    record { place = λ a b c d e f. refl; set = λ n. absurd (n refl); weight = λ n. absurd (n refl); time = λ n. absurd (n refl) }
+    record { place = λ a b c d e f g. refl; set = λ n. absurd (n refl); weight = λ n. absurd (n refl); time = λ n. absurd (n refl) }
 
-pub order-meant : {order : List ℕ} {a : Answer} → OfOrder order a → OnlyMeant a
+pub order-meant : {last : ℕ} {order : List ℕ} {a : Answer} → OfOrder last order a → OnlyMeant a
 order-meant (order-refused a r) = refused-meant r
 order-meant (order-accepted number place o g n p) =
-    record { place = λ a b c d e f. p e f; set = λ n. refl; weight = λ n. refl; time = λ n. refl }
+    record { place = λ a b c d e f g. p e f; set = λ n. refl; weight = λ n. refl; time = λ n. refl }
 
 pub planning-meant : {order before : List ℕ} {r : Planned} {after : List ℕ} → Plans order before r after → OnlyMeant (r .answer)
 planning-meant (Plans.no-room s) = no-place 1

@@ -1,5 +1,6 @@
--- Demand 2's refusal over the answers themselves: for every order that passes 2 to 8, and every answer that planning, judging, drawing, the pen and
--- laying a log may give, "the top rate" is the refusal exactly if no plan exists, and the number, W and P that come back show it.
+-- Demand 2's refusal over the answers themselves: for every order that passes 2 to 8, and 15 where it is planned, and every answer that planning,
+-- judging, drawing, the pen and laying a log may give, "the top rate" is the refusal exactly if no plan exists, and the number, W and P that come
+-- back show it.
 use mathlib.Core.Bool.{true, Bool, false}
 use mathlib.Core.Logic.{_↔_, inl, inr}
 use mathlib.Core.Path.{_≡_, _∙_, ap, refl, sym}
@@ -8,7 +9,7 @@ use Prim.Native.Nat.{ℕ, _*_, _<_, _≤_, zero, suc, _+_, _^_}
 use lib.ListN.{length}
 use native.Mathlib.Nat.{two-pow-succ}
 use native.Mathlib.Omega.{arith}
-use Rattle.model.specs.Limits.{planRoom}
+use Rattle.model.specs.Limits.{lastOpenBay, mostBay, planRoom}
 use Rattle.model.specs.Sets.{Doses, on, sum, weight}
 use Rattle.model.specs.Records.{read}
 use Rattle.model.specs.Orders.{Order, readOrder}
@@ -67,19 +68,19 @@ pub record Names (o : Order) (a : Answer) : Type 0 where
 pub shows-none : (o : Order) (a : Answer) (B : Doses) → Shows o a B → FreePlan o → ⊥
 shows-none o a B s = the-set-shows-it o B (rw (s .weight, s .time) at (s .above))
 
-module _ (order : List ℕ) (o : Order) (e : readOrder order ≡ read o) where
-  nine : (a : Answer) → OfOrder order a → (a .number ≡ 9) ↔ (FreePlan o → ⊥)
-  nine a (order-refused b r) = (λ n. refused-exactly order o e .0 (a, r), λ no. ap (λ (x : Answer). x .number) (refused-names order o e a r .1))
+module _ (last : ℕ) (order : List ℕ) (o : Order) (e : readOrder last order ≡ read o) where
+  nine : (a : Answer) → OfOrder last order a → (a .number ≡ 9) ↔ (FreePlan o → ⊥)
+  nine a (order-refused b r) = (λ n. refused-exactly last order o e .0 (a, r), λ no. ap (λ (x : Answer). x .number) (refused-names order o e a r .1))
   nine a (order-accepted number place o′ g n p) = (
     λ z. absurd (n z),
-    λ no. let r = refused-exactly order o e .1 no in absurd (refused-not-accepted (r .1) g),
+    λ no. let r = refused-exactly last order o e .1 no in absurd (refused-not-accepted (r .1) g),
   )
 
-  names : (a : Answer) → OfOrder order a → a .number ≡ 9 → Names o a
+  names : (a : Answer) → OfOrder last order a → a .number ≡ 9 → Names o a
   names a (order-accepted number place o′ g n p) z = absurd (n z)
   names a (order-refused b r) z =
       let S = settingOf o in
-      let given = names-the-set order o e a r in
+      let given = names-the-set last order o e a r in
       let A = given .0 in
       let is = given .2 in
       let same : (B : Doses) → setNumber (S .doses) B ≡ a .set → Alike (S .doses) A B =
@@ -95,48 +96,51 @@ module _ (order : List ℕ) (o : Order) (e : readOrder order ≡ read o) where
         };
       }
 
-  -- ---- "An order with no other fault is refused for the top rate exactly if no plan within that rate exists"
+-- ---- planning, into a buffer with room, an order that passes 15 too
 
-  -- by planning, into a buffer with room
-  pub planning-refuses-exactly : (before : List ℕ) → planRoom ≤ length before → (r : Planned) (after : List ℕ) → Plans order before r after
-      → (r .answer .number ≡ 9) ↔ (FreePlan o → ⊥)
-  planning-refuses-exactly before room r after h = nine (r .answer) (planned-order room h)
+module _ (order : List ℕ) (o : Order) (e : readOrder lastOpenBay order ≡ read o) (before : List ℕ) (room : planRoom ≤ length before)
+    (r : Planned) (after : List ℕ) (h : Plans order before r after) where
+  -- "An order with no other fault is refused for the top rate exactly if no plan within that rate exists"
+  pub planning-refuses-exactly : (r .answer .number ≡ 9) ↔ (FreePlan o → ⊥)
+  planning-refuses-exactly = nine lastOpenBay order o e (r .answer) (planned-order room h)
+
+  -- "and the set that shows it is named"
+  pub planning-names-the-set : r .answer .number ≡ 9 → Names o (r .answer)
+  planning-names-the-set = names lastOpenBay order o e (r .answer) (planned-order room h)
+
+module _ (order : List ℕ) (o : Order) (e : readOrder mostBay order ≡ read o) where
+  -- ---- "An order with no other fault is refused for the top rate exactly if no plan within that rate exists"
 
   -- by judging
   pub judging-refuses-exactly : (plan : List ℕ) (a : Answer) → Judges order plan a → (a .number ≡ 9) ↔ (FreePlan o → ⊥)
-  judging-refuses-exactly plan a h = nine a (judged-order h)
+  judging-refuses-exactly plan a h = nine mostBay order o e a (judged-order h)
 
   -- by drawing
   pub drawing-refuses-exactly : (plan : List ℕ) (d t : ℕ) (x : Drawn) → Draws order plan d t x → (x .answer .number ≡ 9) ↔ (FreePlan o → ⊥)
-  drawing-refuses-exactly plan d t x h = nine (x .answer) (drawn-order h)
+  drawing-refuses-exactly plan d t x h = nine mostBay order o e (x .answer) (drawn-order h)
 
   -- by the pen
   pub pen-refuses-exactly : (plan : List ℕ) (pen : Pen) (x : Drawn) (to : Pen) → Moves order plan pen x to → (x .answer .number ≡ 9) ↔ (FreePlan o → ⊥)
-  pen-refuses-exactly plan pen x to h = nine (x .answer) (drawn-order (pen-draws h))
+  pen-refuses-exactly plan pen x to h = nine mostBay order o e (x .answer) (drawn-order (pen-draws h))
 
   -- by laying a log
   pub laying-refuses-exactly : (plan : List ℕ) (d : ℕ) (log : List ℕ) (x : Laid) → Lays order plan d log x → (x .answer .number ≡ 9) ↔ (FreePlan o → ⊥)
-  laying-refuses-exactly plan d log x h = nine (x .answer) (laid-order h)
+  laying-refuses-exactly plan d log x h = nine mostBay order o e (x .answer) (laid-order h)
 
   -- ---- "and the set that shows it is named"
 
-  -- by planning
-  pub planning-names-the-set : (before : List ℕ) → planRoom ≤ length before → (r : Planned) (after : List ℕ) → Plans order before r after
-      → r .answer .number ≡ 9 → Names o (r .answer)
-  planning-names-the-set before room r after h = names (r .answer) (planned-order room h)
-
   -- by judging
   pub judging-names-the-set : (plan : List ℕ) (a : Answer) → Judges order plan a → a .number ≡ 9 → Names o a
-  judging-names-the-set plan a h = names a (judged-order h)
+  judging-names-the-set plan a h = names mostBay order o e a (judged-order h)
 
   -- by drawing
   pub drawing-names-the-set : (plan : List ℕ) (d t : ℕ) (x : Drawn) → Draws order plan d t x → x .answer .number ≡ 9 → Names o (x .answer)
-  drawing-names-the-set plan d t x h = names (x .answer) (drawn-order h)
+  drawing-names-the-set plan d t x h = names mostBay order o e (x .answer) (drawn-order h)
 
   -- by the pen
   pub pen-names-the-set : (plan : List ℕ) (pen : Pen) (x : Drawn) (to : Pen) → Moves order plan pen x to → x .answer .number ≡ 9 → Names o (x .answer)
-  pen-names-the-set plan pen x to h = names (x .answer) (drawn-order (pen-draws h))
+  pen-names-the-set plan pen x to h = names mostBay order o e (x .answer) (drawn-order (pen-draws h))
 
   -- by laying a log
   pub laying-names-the-set : (plan : List ℕ) (d : ℕ) (log : List ℕ) (x : Laid) → Lays order plan d log x → x .answer .number ≡ 9 → Names o (x .answer)
-  laying-names-the-set plan d log x h = names (x .answer) (laid-order h)
+  laying-names-the-set plan d log x h = names mostBay order o e (x .answer) (laid-order h)

@@ -6,7 +6,7 @@ use native.Mathlib.Omega.{arith}
 use lib.ListN.{drop, getD, length, length-append, length-drop, take}
 use lib.Seq.{getD-append-add, getD-drop, take-append-seam}
 use Rattle.model.specs.Records.{recordSize}
-use Rattle.model.specs.Limits.{planRoom}
+use Rattle.model.specs.Limits.{lastOpenBay, planRoom}
 use Rattle.model.specs.Orders.{Order}
 use Rattle.model.specs.Stands.{Stands}
 use Rattle.model.specs.Answers.{Accepts, Planned, Plans, done, no-room, overwritten, planBytes, plans, refuses}
@@ -17,9 +17,9 @@ use Rattle.demands.proofs.Existence.{classes-of, shares-of}
 use Rattle.demands.proofs.Demand2.Refusing.{refused-names}
 
 -- an accepted order has a plan that stands
-pub accepted-plan : (order : List ℕ) (o : Order) → Accepts order o → (plan : List ℕ) × Stands o plan
-accepted-plan order o a =
-    let fit = read-fits order o (a .reads) in
+pub accepted-plan : {last : ℕ} (order : List ℕ) (o : Order) → Accepts last order o → (plan : List ℕ) × Stands o plan
+accepted-plan {last} order o a =
+    let fit = read-fits last order o (a .reads) in
     let r = classes-of o fit in
     let v = shares-of o (r .0) (r .1) (r .2) in
     (planBytes o (r .0) (r .1) (v .0), plan-stands o fit (r .0) (r .1) (r .2) (v .0) (v .1))
@@ -33,7 +33,7 @@ pub record Left (o : Order) (before after : List ℕ) (r : Planned) : Type 0 whe
   pub counted : length plan ≡ recordSize * (r .classes + r .slots)
 
 -- planning an accepted order with room for the plan leaves that
-pub planned : (order before : List ℕ) (o : Order) → Accepts order o → planRoom ≤ length before → (r : Planned) (after : List ℕ) → Plans order before r after
+pub planned : (order before : List ℕ) (o : Order) → Accepts lastOpenBay order o → planRoom ≤ length before → (r : Planned) (after : List ℕ) → Plans order before r after
     → Left o before after r
 planned order before o a room r after (no-room small) = absurd (omega arith)
 planned order before o a room r after (refuses l b refuse) =
@@ -43,7 +43,7 @@ planned order before o a room r after (plans l o′ a′ p C c x v) =
     let reads = a .reads in
     let reads′ = a′ .reads in
     let same : o′ ≡ o = cc in
-    let fit = read-fits order o′ (a′ .reads) in
+    let fit = read-fits lastOpenBay order o′ (a′ .reads) in
     record {
       plan = planBytes o′ p C x;
       stands = subst (λ (o : Order). Stands o (planBytes o′ p C x)) same (plan-stands o′ fit p C c x v);
@@ -81,14 +81,14 @@ pub kept : {order before : List ℕ} {r : Planned} {after : List ℕ} → Plans 
 kept (no-room small) = record { as-long = refl; behind = λ i l. refl }
 kept (refuses l b refuse) = record { as-long = refl; behind = λ i l. refl }
 kept {order} {before} (plans l o a p C c x v) =
-    let fit = read-fits order o (a .reads) in
+    let fit = read-fits lastOpenBay order o (a .reads) in
     record {
       as-long = length-overwritten before (planBytes o p C x) (omega (arith, plan-room o fit p C c x v));
       behind = λ i q. behind-overwritten before (planBytes o p C x) i (omega (arith, plan-length o fit p C c x v));
     }
 
 -- the first records of the buffer are a plan that stands
-pub plan-in-front : (order before : List ℕ) (o : Order) → Accepts order o → planRoom ≤ length before → (r : Planned) (after : List ℕ) → Plans order before r after
+pub plan-in-front : (order before : List ℕ) (o : Order) → Accepts lastOpenBay order o → planRoom ≤ length before → (r : Planned) (after : List ℕ) → Plans order before r after
     → Stands o (take (recordSize * (r .classes + r .slots)) after)
 plan-in-front order before o a room r after h =
     let left = planned order before o a room r after h in

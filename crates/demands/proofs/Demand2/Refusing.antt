@@ -36,7 +36,7 @@ pub record TooFast (o : Order) : Type 0 where
   pub too-fast : T (aboveTop o set)
 
 -- an order that is read and refused has one, and it is what the refusal names
-pub refused-names : (order : List ℕ) (o : Order) → readOrder order ≡ read o → (a : Answer) → Refuses order a → (f : TooFast o) × (a ≡ tooFast o (f .set))
+pub refused-names : {last : ℕ} (order : List ℕ) (o : Order) → readOrder last order ≡ read o → (a : Answer) → Refuses last order a → (f : TooFast o) × (a ≡ tooFast o (f .set))
 refused-names order o e a (unread number place g) = let z : _≡_ {A = ℕ} 0 1 = cc in absurd (omega arith)
 refused-names order o e a (above o′ A g first t) =
     let same : o′ ≡ o = cc in

@@ -7,6 +7,7 @@ use Prim.Native.Nat.{ℕ, _+_, _*_, _≤_, _<_}
 use native.Mathlib.Nat.{mul-le-mul-left}
 use native.Mathlib.Omega.{arith}
 use lib.Dec.{T}
+use Rattle.model.specs.Limits.{mostBay}
 use Rattle.model.specs.Sets.{Doses}
 use Rattle.model.specs.Records.{read}
 use Rattle.model.specs.Orders.{Order, doseAt, readOrder}
@@ -24,7 +25,7 @@ use Rattle.demands.proofs.Demand3 as demand
 -- an answer that is no refusal: the order is accepted, the plan stands, and the answer is the point
 record Done (order plan : List ℕ) (d t : ℕ) (x : Drawn) : Type 0 where
   read-order : Order
-  accepts : Accepts order read-order
+  accepts : Accepts mostBay order read-order
   stands : Stands read-order plan
   listed : d < settingOf read-order .doses
   is : x ≡ pointOf read-order plan d t
@@ -57,7 +58,7 @@ module _ (order plan : List ℕ) (d : ℕ) where
       → (x .point .amount * timeOf slots d ≤ unitsBefore slots d t) × (unitsBefore slots d t < (x .point .amount + 1) * timeOf slots d)
   behind-never-ahead t x a =
       let s = done t x a in
-      rw (amount-is t x a) (demand.behind-never-ahead order (s .read-order) (s .accepts .reads) plan (s .stands) d (s .listed) t)
+      rw (amount-is t x a) (demand.behind-never-ahead mostBay order (s .read-order) (s .accepts .reads) plan (s .stands) d (s .listed) t)
 
   module _ (t h : ℕ) (x y : Drawn) (a : Answers t x) (b : Answers (t + h) y) where
     -- "over h seconds it rises by less than h × rate + 1 gram"
@@ -65,14 +66,14 @@ module _ (order plan : List ℕ) (d : ℕ) where
     rises-slowly =
         let s = done t x a in
         rw (amount-is t x a, amount-is (t + h) y b)
-        (demand.rises-slowly order (s .read-order) (s .accepts .reads) plan (s .stands) d (s .listed) t h)
+        (demand.rises-slowly mostBay order (s .read-order) (s .accepts .reads) plan (s .stands) d (s .listed) t h)
 
     -- and never falls
     pub never-falls : x .point .amount ≤ y .point .amount
     never-falls =
         let s = done t x a in
         rw (amount-is t x a, amount-is (t + h) y b)
-        (demand.never-falls order (s .read-order) (s .accepts .reads) plan (s .stands) d (s .listed) t h)
+        (demand.never-falls mostBay order (s .read-order) (s .accepts .reads) plan (s .stands) d (s .listed) t h)
 
     -- "and not at all where the dose has no slot time"
     pub still-without-slot-time : ((s : Slot) → OneOf slots s → s .dose ≡ d → (ends s ≤ t * s .weight) ⊎ ((t + h) * s .weight ≤ starts s))
@@ -80,9 +81,9 @@ module _ (order plan : List ℕ) (d : ℕ) where
     still-without-slot-time g =
         let s = done t x a in
         rw (amount-is t x a, amount-is (t + h) y b)
-        (demand.still-without-slot-time order (s .read-order) (s .accepts .reads) plan (s .stands) d (s .listed) t h g)
+        (demand.still-without-slot-time mostBay order (s .read-order) (s .accepts .reads) plan (s .stands) d (s .listed) t h g)
 
-  module _ (t : ℕ) (x : Drawn) (a : Answers t x) (o : Order) (e : readOrder order ≡ read o) where
+  module _ (t : ℕ) (x : Drawn) (a : Answers t x) (o : Order) (e : readOrder mostBay order ≡ read o) where
     same-order : done t x a .read-order ≡ o
     same-order = let f = done t x a .accepts .reads in cc
 
@@ -98,24 +99,24 @@ module _ (order plan : List ℕ) (d : ℕ) where
     pub zero-up-to-the-start : t ≤ doseAt o d .release → x .point .amount ≡ 0
     zero-up-to-the-start l =
         let s = done t x a in
-        amount-is t x a ∙ demand.zero-up-to-the-start order (s .read-order) (s .accepts .reads) plan (s .stands) d (s .listed) t (rw same-order l)
+        amount-is t x a ∙ demand.zero-up-to-the-start mostBay order (s .read-order) (s .accepts .reads) plan (s .stands) d (s .listed) t (rw same-order l)
 
     -- "all the grams from the deadline on"
     pub all-from-the-deadline : doseAt o d .deadline ≤ t → x .point .amount ≡ doseAt o d .grams
     all-from-the-deadline l =
         let s = done t x a in
-        amount-is t x a ∙ demand.all-from-the-deadline order (s .read-order) (s .accepts .reads) plan (s .stands) d (s .listed) t (rw same-order l)
+        amount-is t x a ∙ demand.all-from-the-deadline mostBay order (s .read-order) (s .accepts .reads) plan (s .stands) d (s .listed) t (rw same-order l)
         ∙ ap (λ (u : Order). doseAt u d .grams) same-order
 
     -- the W and P of the dose's slots, its rate, are those of its class
     pub rate-of-its-class : (p : ℕ) (C : ℕ → Doses) → Classes (settingOf o) (fansPresent o) p C → (i : ℕ) → i < p → T (C i d)
         → (weightOf slots d ≡ W (settingOf o) (C i)) × (timeOf slots d ≡ classP (settingOf o) (fansPresent o) C i)
-    rate-of-its-class = demand.rate-of-its-class order o e plan stands d listed
+    rate-of-its-class = demand.rate-of-its-class mostBay order o e plan stands d listed
 
     -- "Inside its window a dose is without a fan only if every fan is running, each at that dose's rate or above"
     pub waits-only-while-all-fans-run : (q m : ℕ) → 0 < q → q * doseAt o d .release ≤ m → m < q * doseAt o d .deadline → (HasFan slots q m d → ⊥)
         → (f : ℕ) → 1 ≤ f → f ≤ o .fans → RunsAt slots q m f (weightOf slots d) (timeOf slots d)
-    waits-only-while-all-fans-run = demand.waits-only-while-all-fans-run order o e plan stands d listed
+    waits-only-while-all-fans-run = demand.waits-only-while-all-fans-run mostBay order o e plan stands d listed
 
     -- its state is the dose's
     pub state-is : x .point .state ≡ stateAt o slots d t

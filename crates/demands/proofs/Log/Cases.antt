@@ -6,6 +6,7 @@ use Prim.Native.Nat.{ℕ, _-_}
 use borrow.Author.Tests.{eqb-false, eqb-true, leb-false, leb-true}
 use lib.Dec.{T, eqb, eqb→eq, leb, ltb, ltb→lt}
 use lib.ListN.{length}
+use Rattle.model.specs.Limits.{mostBay}
 use Rattle.model.specs.Lists.{All}
 use Rattle.model.specs.Records.{pick}
 use Rattle.model.specs.Orders.{Order, doseAt, readOrder}
@@ -37,7 +38,7 @@ same-laid a b t =
     λ i. record { answer = answer i; figures = record { metered = metered i; risen = risen i; unknown = unknown i } }
 
 -- what is laid then, by its definition
-laid-so : (order plan : List ℕ) (o : Order) → Accepts order o → Stands o plan → (d : ℕ) (log : List ℕ) → Lays order plan d log (laidOf o plan d log)
+laid-so : (order plan : List ℕ) (o : Order) → Accepts mostBay order o → Stands o plan → (d : ℕ) (log : List ℕ) → Lays order plan d log (laidOf o plan d log)
 unfolding laidOf
 laid-so order plan o g h d log = dose (leb (settingOf o .doses) d) refl
   where
@@ -54,19 +55,19 @@ log-row-right c t = record { lays = lays; only = λ x h. lays-one h lays }
     bench : Right (benchCase c)
     bench = All-at (oneFan 1000 1) cases-right (c .row - 1) (ltb→lt (c .row - 1) (length cases) (and-left (ltb (c .row - 1) (length cases)) _ t))
 
-    by-order : (o : Order) → Accepts (benchCase c .order) o → Stands o (casePlan (benchCase c)) → T (laidTest c (readOrder (benchCase c .order)))
+    by-order : (o : Order) → Accepts mostBay (benchCase c .order) o → Stands o (casePlan (benchCase c)) → T (laidTest c (readOrder mostBay (benchCase c .order)))
         → Lays (benchCase c .order) (casePlan (benchCase c)) (c .dose) (c .log) (c .laid)
     by-order o g h u =
         let same = same-laid (laidOf o (casePlan (benchCase c)) (c .dose) (c .log)) (c .laid) (rw (g .reads) at u) in
         rw (← same) (laid-so (benchCase c .order) (casePlan (benchCase c)) o g h (c .dose) (c .log))
 
     by-number : (b : Bool) → eqb (benchCase c .answer .number) 0 ≡ b
-        → T (pick b (laidTest c (readOrder (benchCase c .order))) (sameLaid (notLaid (benchCase c .answer)) (c .laid)))
+        → T (pick b (laidTest c (readOrder mostBay (benchCase c .order))) (sameLaid (notLaid (benchCase c .answer)) (c .laid)))
         → Lays (benchCase c .order) (casePlan (benchCase c)) (c .dose) (c .log) (c .laid)
-    by-number true e u = let s = judged-zero (bench .judged) (eqb-true _ _ e) in by-order (s .0) (s .1) (s .2) u
+    by-number true e u = let s = judged-zero (bench .judging .judged) (eqb-true _ _ e) in by-order (s .0) (s .1) (s .2) u
     by-number false e u =
         let same = same-laid (notLaid (benchCase c .answer)) (c .laid) u in
-        rw (← same) (Lays.refuses (benchCase c .answer) (bench .judged) (eqb-false _ _ e))
+        rw (← same) (Lays.refuses (benchCase c .answer) (bench .judging .judged) (eqb-false _ _ e))
 
     lays : Lays (benchCase c .order) (casePlan (benchCase c)) (c .dose) (c .log) (c .laid)
     lays = by-number (eqb (benchCase c .answer .number) 0) refl (and-right (ltb (c .row - 1) (length cases)) _ t)

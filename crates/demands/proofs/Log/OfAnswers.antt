@@ -5,7 +5,7 @@ use mathlib.Core.List.{List, [], _∷_, _++_}
 use Prim.Native.Nat.{ℕ, _+_, _*_, _-_, _≤_, _<_}
 use native.Mathlib.Omega.{arith}
 use lib.ListN.{length}
-use Rattle.model.specs.Limits.{gramParts, logRoom}
+use Rattle.model.specs.Limits.{gramParts, logRoom, mostBay}
 use Rattle.model.specs.Lists.{total}
 use Rattle.model.specs.Records.{read}
 use Rattle.model.specs.Orders.{Order, doseAt, readOrder}
@@ -25,7 +25,7 @@ use Rattle.demands.proofs.Log as laid
 -- an answer that is no refusal: the order is accepted, the plan stands, the log is read, and the figures are its own
 pub record LogLaid (order plan : List ℕ) (d : ℕ) (log : List ℕ) (x : Laid) : Type 0 where
   pub read-order : Order
-  pub accepts : Accepts order read-order
+  pub accepts : Accepts mostBay order read-order
   pub stands : Stands read-order plan
   pub listed : d < settingOf read-order .doses
   pub records : List Logged
@@ -42,7 +42,7 @@ laid-done {order} {plan} {d} {log} (Lays.lays o acc st l) =
     (λ records q e. record { read-order = o; accepts = acc; stands = st; listed = l; records = records; reads = q; is = refl })
 
 module _ (order plan : List ℕ) (d : ℕ) (log : List ℕ) (x : Laid) (h : Lays order plan d log x) (z : x .answer .number ≡ 0)
-    (o : Order) (e : readOrder order ≡ read o) (records : List Logged) (r : readLog (doseAt o d .bay) log ≡ read records) where
+    (o : Order) (e : readOrder mostBay order ≡ read o) (records : List Logged) (r : readLog (doseAt o d .bay) log ≡ read records) where
   done : LogLaid order plan d log x
   done = laid-done h z
 
@@ -65,7 +65,7 @@ module _ (order plan : List ℕ) (d : ℕ) (log : List ℕ) (x : Laid) (h : Lays
 
   -- the seconds of the known stretches and "the seconds unknown" are all from the first record's tick to the last one's
   pub seconds-add-up : total (λ s. ifKnown (metering s) (seconds s)) (stretches records) + x .figures .unknown ≡ lastTick records - firstTick records
-  seconds-add-up = rw figures-are (laid.seconds-add-up order o e plan stands d listed log records r)
+  seconds-add-up = rw figures-are (laid.seconds-add-up mostBay order o e plan stands d listed log records r)
 
   pub unknown-within : x .figures .unknown ≤ lastTick records - firstTick records
   unknown-within = omega (arith, seconds-add-up)
@@ -75,16 +75,16 @@ module _ (order plan : List ℕ) (d : ℕ) (log : List ℕ) (x : Laid) (h : Lays
       → (x .figures .risen ≡ gramParts * (y′ .point .amount - y .point .amount)) × (x .figures .unknown ≡ 0)
   all-known-rise k y y′ a b =
       rw (figures-are, amount-is order plan d (firstTick records) y a, amount-is order plan d (lastTick records) y′ b)
-      (laid.all-known-rise order o e plan stands d listed log records r k)
+      (laid.all-known-rise mostBay order o e plan stands d listed log records r k)
 
   -- and all the grams, where they reach from the release or before to the deadline or behind
   pub whole-window-rise : AllKnown (stretches records) → firstTick records ≤ doseAt o d .release → doseAt o d .deadline ≤ lastTick records
       → x .figures .risen ≡ gramParts * doseAt o d .grams
-  whole-window-rise k early late = rw figures-are (laid.whole-window-rise order o e plan stands d listed log records r k early late)
+  whole-window-rise k early late = rw figures-are (laid.whole-window-rise mostBay order o e plan stands d listed log records r k early late)
 
   -- never more than the dose's grams
   pub risen-at-most-the-grams : x .figures .risen ≤ gramParts * doseAt o d .grams
-  risen-at-most-the-grams = rw figures-are (laid.risen-at-most-the-grams order o e plan stands d listed log records r)
+  risen-at-most-the-grams = rw figures-are (laid.risen-at-most-the-grams mostBay order o e plan stands d listed log records r)
 
   -- what one stretch of the log adds to the figures of the others
   stretch-adds : (front back : List Stretch) (s : Stretch) → stretches records ≡ front ++ s ∷ back → (own : Figures) → figuresOf (lineOf plan d) (s ∷ []) ≡ own

@@ -1,5 +1,6 @@
 -- `judge` meets its contract: each answer is the verdict of its case (Verdicts).
 use mathlib.Core.Path.{_≡_}
+use Rattle.model.specs.Limits.{mostBay}
 use Rattle.model.specs.Records.{read}
 use Rattle.model.specs.Orders.{readOrder}
 use Rattle.model.proofs.Orders.{read-fits}
@@ -20,16 +21,16 @@ returns c = judged-unread _ _ _ _ (was-refused _ _ (c .before .before .read-orde
 order-is : (c : tie.Else1) →
     let reading = c .before .before in
     let A = reading .before .before .before .args in
-    readOrder (A .order .now) ≡ read (asOrder (reading .read-order .result .order))
+    readOrder mostBay (A .order .now) ≡ read (asOrder (reading .read-order .result .order))
 order-is c = was-read _ _ (c .before .before .read-order .ensures) (c .if1 .left)
 
 certify-requires : tie.Need-certify-requires
-certify-requires c κs = read-fits _ _ (order-is (c .before))
+certify-requires c κs = read-fits _ _ _ (order-is (c .before))
 
 against-top-requires : tie.Need-against-top-requires
 against-top-requires c κs =
     let certified = c .before .before in
-    (read-fits _ _ (order-is (certified .before .before)), certified .certify .ensures .leader (c .before .if2 .taken))
+    (read-fits _ _ _ (order-is (certified .before .before)), certified .certify .ensures .leader (c .before .if2 .taken))
 
 returns-2 : tie.Need-returns-2
 returns-2 c =
@@ -38,7 +39,7 @@ returns-2 c =
     judged-stands _ _ _ (order-is (certified .before .before)) (certified .certify .ensures .tells .yes (standing .if2 .taken)) _ (c .against-top .ensures)
 
 fallen-requires : tie.Need-fallen-requires
-fallen-requires c κs = read-fits _ _ (order-is (c .before .before .before))
+fallen-requires c κs = read-fits _ _ _ (order-is (c .before .before .before))
 
 returns-3 : tie.Need-returns-3
 returns-3 c =

@@ -1,4 +1,4 @@
--- `read_order` meets its contract: 2 by the length, 3 to 5 by the walk over the records, 6 to 8 by what they come to (Settles).
+-- `read_order` meets its contract: 2 by the length, 3 to 5 and 15 by the walk over the records, 6 to 8 by what they come to (Settles).
 use mathlib.Core.Path.{sym, _∙_}
 use borrow.Author.Tests.{eq-eqb, ne-eqb, le-leb, lt-leb}
 use Rattle.model.specs.Orders.{readOrder}
@@ -50,7 +50,7 @@ returns-4 c =
     let fits = walked .before in
     answers _ _
     (at-on heldReading _ _ (and-on (sym (eq-eqb _ _ (fits .before .if1 .left))) (sym (le-leb _ _ (fits .if2 .left))))
-    (c .settle .ensures ∙ walk-settled _ (each-from _ 0 _) (walked .walk .ensures) (test .if3 .left)))
+    (c .settle .ensures ∙ walk-settled _ (each-from _ _ 0 _) (walked .walk .ensures) (test .if3 .left)))
 
 pub read-order-spec : {M : Type 1} → statement M
 read-order-spec =

@@ -9,10 +9,10 @@ use Rattle.order.proofs.walk.Statement.{statement}
 use Rattle.order.proofs.walk.Tie as tie
 
 abbrev Inv-loop : tie.InvT-loop
-Inv-loop bytes n s₀ k₀ s k = Walking bytes n k s
+Inv-loop last bytes n s₀ k₀ s k = Walking last bytes n k s
 
 abbrev μ-loop : tie.MeasureT-loop
-μ-loop bytes n s₀ k₀ s k = n - k
+μ-loop last bytes n s₀ k₀ s k = n - k
 
 no-records-requires : tie.Need-no-records-requires Inv-loop μ-loop
 no-records-requires c κs = tt

@@ -1,5 +1,6 @@
--- `fans_entry` meets its contract: a fault of the zeros or the ranges is the refusal; without one the F's fields stand (Takes).
-use mathlib.Core.Path.{ap, _∙_}
+-- `fans_entry` meets its contract: a fault of the zeros or the ranges is the refusal, since an F has no bay; without one its fields stand (Takes).
+use mathlib.Core.Path.{refl, ap, _∙_}
+use mathlib.Core.Bool.{true}
 use Rattle.model.specs.Orders.{Fans, fansFit}
 use Rattle.order.specs.declared.Entry.the-variants as is
 use Rattle.records.specs.Held.{heldFans}
@@ -25,16 +26,16 @@ returns : tie.Need-returns
 returns c =
     let fault = c .before in
     let blank = fault .before .before in
-    let found = fault-of fansFit (fault .fault .ensures) (blank .fans-blank .ensures) (fault .before .fans-fit .ensures) (blank .before .fans-in .ensures) in
-    faulty _ _ _ _ found (c .if1 .taken)
+    let found = fault-of fansFit (λ f. true) (fault .fault .ensures) (blank .fans-blank .ensures) (fault .before .fans-fit .ensures) refl (blank .before .fans-in .ensures) in
+    faulty _ _ _ _ _ found (c .if1 .taken)
 
 returns-2 : tie.Need-returns-2
 unfolding heldEntry
 returns-2 c =
     let fault = c .before in
     let blank = fault .before .before in
-    let found = fault-of fansFit (fault .fault .ensures) (blank .fans-blank .ensures) (fault .before .fans-fit .ensures) (blank .before .fans-in .ensures) in
-    ap (λ (x : Fans). is.Fans (heldFans x)) (blank .before .fans-in .ensures) ∙ faultless _ _ _ _ found (c .if1 .left)
+    let found = fault-of fansFit (λ f. true) (fault .fault .ensures) (blank .fans-blank .ensures) (fault .before .fans-fit .ensures) refl (blank .before .fans-in .ensures) in
+    ap (λ (x : Fans). is.Fans (heldFans x)) (blank .before .fans-in .ensures) ∙ faultless _ _ _ _ _ found (c .if1 .left)
 
 pub fans-entry-spec : {M : Type 1} → statement M
 fans-entry-spec =
