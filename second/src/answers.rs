@@ -6,7 +6,7 @@ use crate::layout::{plan_bytes, wrap, Slot};
 use crate::library::{Drawn, Judged, Laid, Peer, Planned, DOSING, FINISHED, IDLE, SHUT};
 use crate::line::{point, Point, State};
 use crate::log;
-use crate::orders::{read, Order, RECORD, WEEK};
+use crate::orders::{read, Order, TrialBays, RECORD, WEEK};
 use crate::random::Random;
 use crate::shares::{shares, Shares};
 use crate::stands::stands;
@@ -23,13 +23,13 @@ pub struct House {
 /// A way to find all classes of an order.
 type Finder = fn(&Order, &Intervals) -> Vec<Class>;
 
-/// Refusals 2 to 9.
-pub fn accept(bytes: &[u8]) -> Result<House, Judged> {
-    accept_by(bytes, classes::all)
+/// Refusals 2 to 9; where trial bays are closed, as in planning, also 15.
+pub fn accept(bytes: &[u8], trial_bays: TrialBays) -> Result<House, Judged> {
+    accept_by(bytes, trial_bays, classes::all)
 }
 
-fn accept_by(bytes: &[u8], find: Finder) -> Result<House, Judged> {
-    let order = read(bytes).map_err(|r| refusal(r.number, r.place))?;
+fn accept_by(bytes: &[u8], trial_bays: TrialBays, find: Finder) -> Result<House, Judged> {
+    let order = read(bytes, trial_bays).map_err(|r| refusal(r.number, r.place))?;
     let spans = Intervals::of(&order);
     let classes = find(&order, &spans);
     match classes.first() {
@@ -153,7 +153,7 @@ pub const OWN_FLOW: Own = Own(classes::by_flow);
 impl Own {
     /// What is asked of a plan that stands; else 2 to 10, as this entry point gives a refusal.
     fn ask<T>(&self, order: &[u8], plan: &[u8], refuse: fn(Judged) -> T, answer: impl FnOnce(&House, &[Slot]) -> T) -> T {
-        match accept_by(order, self.0) {
+        match accept_by(order, TrialBays::Open, self.0) {
             Err(j) => refuse(j),
             Ok(house) => house.stands(plan).map_or_else(|_| refuse(refusal(10, 0)), |slots| answer(&house, &slots)),
         }
@@ -169,7 +169,7 @@ impl Peer for Own {
         if plan.len() < PLAN_BUFFER {
             return Planned { number: 1, ..Planned::default() };
         }
-        match accept_by(order, self.0) {
+        match accept_by(order, TrialBays::Closed, self.0) {
             Err(j) => planned(j),
             Ok(house) => {
                 let bytes = house.plan(None);

@@ -3,7 +3,7 @@
 use crate::answers::{accept, PLAN_BUFFER};
 use crate::library::{stack_use, Drawn, Judged, Laid, Peer, Planned};
 use crate::log::{flow_bits, meter_record, COUNTER, FLOW, LONGEST_LOG};
-use crate::orders::{read, write, Order, RECORD, WEEK};
+use crate::orders::{read, write, Order, TrialBays, RECORD, WEEK};
 use crate::random::Random;
 use crate::styles;
 use std::hint::black_box;
@@ -63,7 +63,7 @@ pub fn measure(peers: &[&dyn Peer], orders: &[Vec<u8>]) -> Vec<Times> {
     let mut rows: Vec<Vec<([f64; 5], usize)>> = vec![Vec::new(); peers.len()];
     let mut buffer = vec![0; PLAN_BUFFER];
     for bytes in orders {
-        let order = read(bytes).expect("an order to measure");
+        let order = read(bytes, TrialBays::Closed).expect("an order to measure");
         let dose = order.doses.len() / 2;
         let middle = order.doses[dose].release + (order.doses[dose].deadline - order.doses[dose].release) / 2;
         for (peer, row) in peers.iter().zip(&mut rows) {
@@ -103,7 +103,7 @@ fn full_log(order: &Order, dose: usize) -> Vec<u8> {
 pub fn logs(peers: &[&dyn Peer], orders: &[Vec<u8>]) -> Vec<Vec<[f64; 2]>> {
     let mut rows = vec![Vec::new(); peers.len()];
     for bytes in orders {
-        let order = read(bytes).expect("an order to measure");
+        let order = read(bytes, TrialBays::Closed).expect("an order to measure");
         let dose = order.doses.len() / 2;
         let log = full_log(&order, dose);
         for (peer, row) in peers.iter().zip(&mut rows) {
@@ -118,19 +118,19 @@ pub fn logs(peers: &[&dyn Peer], orders: &[Vec<u8>]) -> Vec<Vec<[f64; 2]>> {
 /// Accepted orders of exactly `n` doses.
 pub fn random_orders(n: usize, style: usize, count: usize, r: &mut Random) -> Vec<Vec<u8>> {
     let all = std::iter::repeat_with(|| write(&styles::exactly(n, style, r), 0));
-    all.filter(|bytes| accept(bytes).is_ok()).take(count.max(1)).collect()
+    all.filter(|bytes| accept(bytes, TrialBays::Closed).is_ok()).take(count.max(1)).collect()
 }
 
 /// The hard sample's first doses.
 pub fn hard_orders(n: usize) -> Vec<Vec<u8>> {
-    let mut order: Order = read(HARD).expect("the sample is an order");
+    let mut order: Order = read(HARD, TrialBays::Closed).expect("the sample is an order");
     order.doses.truncate(n);
     vec![write(&order, 0)]
 }
 
 /// The median number of chains that the second program's flow pushes for the shares.
 pub fn chains(orders: &[Vec<u8>]) -> u64 {
-    median(orders.iter().map(|b| accept(b).map_or(0, |h| h.shares(None).1)).collect())
+    median(orders.iter().map(|b| accept(b, TrialBays::Closed).map_or(0, |h| h.shares(None).1)).collect())
 }
 
 /// Answers at once: what it takes of the stack is the measuring's own.
@@ -185,7 +185,7 @@ pub fn stacks(peer: &dyn Peer, orders: &[Vec<u8>]) -> [usize; 5] {
     let mut deepest = own;
     for order in orders {
         let plan = plan_of(peer, order);
-        let log = full_log(&read(order).expect("an order to measure"), 0);
+        let log = full_log(&read(order, TrialBays::Closed).expect("an order to measure"), 0);
         for plan in [&plan[..], &plan[..plan.len().saturating_sub(RECORD)]] {
             let used = stacks_with(peer, order, plan, &log);
             deepest.iter_mut().zip(used).for_each(|(most, used)| *most = used.max(*most));

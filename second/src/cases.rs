@@ -3,7 +3,7 @@
 use crate::answers::{accept, refusal};
 use crate::checks::Checks;
 use crate::library::{Drawn, Judged, DOSING, FINISHED, IDLE, SHUT};
-use crate::orders::{number, write, Dose, Order, RECORD};
+use crate::orders::{number, write, Dose, Order, TrialBays, FIRST_TRIAL_BAY, LAST_BAY, RECORD};
 use crate::printer;
 
 type Window = (u32, u32, u32);
@@ -60,7 +60,7 @@ pub fn examples() -> Vec<(&'static str, Vec<u8>)> {
     named
 }
 
-/// The examples' orders and the samples, as the first cases of every comparison.
+/// The examples' orders, the samples and the edges of the trial bays, as the first cases of every comparison.
 pub fn fixed() -> Vec<Vec<u8>> {
     let mut list = vec![order(1, TOP, &[(0, 4, 0)]), order(1, TOP, &[(0, 4, 1_000_001)]), order(1, TOP, &[(0, 4, 1); 25])];
     // Two rates that differ by 1 part in 3 x 10^11.
@@ -68,6 +68,12 @@ pub fn fixed() -> Vec<Vec<u8>> {
     let mut bytes: Vec<Vec<u8>> = examples().into_iter().map(|(_, b)| b).collect();
     bytes.splice(10..10, list.iter().map(|o| write(o, 0)));
     bytes.extend(crate::samples::all().into_iter().map(|(_, b)| b));
+    // Both sides of each edge of the trial bays, and one of them in a record of no grams.
+    for (bay, grams) in [(FIRST_TRIAL_BAY - 1, 1), (FIRST_TRIAL_BAY, 1), (LAST_BAY, 1), (LAST_BAY + 1, 1), (LAST_BAY, 0)] {
+        let mut one = order(1, TOP, &[(0, 4, grams)]);
+        one.doses[0].bay = bay;
+        bytes.push(write(&one, 0));
+    }
     bytes
 }
 
@@ -93,7 +99,7 @@ pub fn example(c: &mut Checks, name: &str, o: &Order, classes: &[Said], slots: &
     let plan = c.planned(name, &bytes, classes.len() as u32, slots.len() as u32);
     c.same(name, said(&plan), (classes.to_vec(), slots.to_vec()));
     c.judge(name, &bytes, &plan, Judged::default());
-    c.same(name, accept(&bytes).map(|house| house.stands(&plan).err()), Ok(None));
+    c.same(name, accept(&bytes, TrialBays::Open).map(|house| house.stands(&plan).err()), Ok(None));
     plan
 }
 
@@ -112,7 +118,8 @@ pub fn amounts(c: &mut Checks, name: &str, o: &Order, plan: &[u8], dose: usize, 
 }
 
 fn print(c: &mut Checks, name: &str, o: &Order, plan: &[u8], wanted: &str) {
-    let text = accept(&write(o, 0)).ok().and_then(|house| house.stands(plan).ok().map(|slots| printer::lines(&house, &slots)));
+    let house = accept(&write(o, 0), TrialBays::Closed).ok();
+    let text = house.and_then(|house| house.stands(plan).ok().map(|slots| printer::lines(&house, &slots)));
     c.same(name, text.as_deref(), Some(wanted));
 }
 

@@ -6,7 +6,7 @@ use crate::library::{Drawn, Judged, Laid, Peer, Planned};
 use crate::meter::RAGGED;
 use crate::orders::RECORD;
 use crate::random::Random;
-use crate::{cases, drawing, feeding, laying, refusals, verdicts};
+use crate::{cases, closing, drawing, feeding, laying, refusals, verdicts};
 use std::fmt::Debug;
 
 pub struct Checks<'a> {
@@ -87,6 +87,11 @@ impl Checks<'_> {
     /// An order that all five entry points refuse alike, whatever the plan bytes, dose, tick and log.
     pub fn refused(&mut self, name: &str, order: &[u8], wanted: Judged) {
         self.plan(name, order, PLAN_BUFFER, planned(wanted));
+        self.refused_with_a_plan(name, order, wanted);
+    }
+
+    /// An order that judging, drawing, the pen and laying refuse alike.
+    pub fn refused_with_a_plan(&mut self, name: &str, order: &[u8], wanted: Judged) {
         for plan in [&[][..], &[b'S'; 33]] {
             self.judge(name, order, plan, wanted);
             self.not_drawn(name, order, plan, 0, 3, not_drawn(wanted));
@@ -100,7 +105,7 @@ impl Checks<'_> {
 /// A name, and the checks behind it.
 type Group = (&'static str, fn(&mut Checks));
 
-const GROUPS: [Group; 16] = [
+const GROUPS: [Group; 19] = [
     ("planning: P1 to P12", cases::proved),
     ("planning: the run line", cases::run_line),
     ("refusals: 1 to 9, each alone", refusals::alone),
@@ -117,6 +122,9 @@ const GROUPS: [Group; 16] = [
     ("laying: the figures of C-11", laying::figures),
     ("laying: 13 and 14, each alone", laying::refusals),
     ("laying: several faults at once", laying::several),
+    ("trial bays: their edges and 15's place", closing::edges),
+    ("trial bays: with other faults", closing::faults),
+    ("trial bays: old orders judged, drawn and laid", closing::old),
 ];
 
 /// Runs every group; true if no check failed.

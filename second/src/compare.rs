@@ -5,10 +5,10 @@ use crate::demand3::sentences;
 use crate::layout::Slot;
 use crate::library::{Drawn, Judged, Laid, Peer, Planned};
 use crate::measure::Measure;
-use crate::orders::{RECORD, WEEK};
+use crate::orders::{put, TrialBays, FIRST_TRIAL_BAY, RECORD, WEEK};
 use crate::random::Random;
 use crate::tally::Tally;
-use crate::{alone, cases, guard, log, meter, near, seconds, stretches, variants};
+use crate::{alone, cases, guard, log, meter, near, seconds, stretches, trial, variants};
 
 /// A case in which the two differ, with the bytes that show it.
 pub struct Difference {
@@ -20,6 +20,9 @@ pub struct Difference {
 
 /// Slots of a damaged plan that still stands around whose edges points are asked for.
 const FEW: usize = 4;
+
+/// The record that is put into a trial bay where every length of order is asked.
+const TRIAL_RECORD: usize = 9;
 
 /// Once in so many accepted orders a log of about 4,096 records is laid.
 const LONG: u64 = 8;
@@ -44,6 +47,12 @@ impl Case<'_> {
     /// What came back of a lent call, or the byte that changed as a difference.
     fn got<T>(&self, answer: Result<T, String>, plan: &[u8]) -> Result<T, Difference> {
         answer.or_else(|what| self.differ(what, plan))
+    }
+
+    /// The order as planning reads it, with trial bays closed, and as judging, drawing, the pen and laying do, with trial bays open.
+    fn own(&self) -> Result<[Result<House, Judged>; 2], Difference> {
+        trial::sentence(&self.order).or_else(|what| self.differ(format!("C-14: {what}"), &[]))?;
+        Ok([TrialBays::Closed, TrialBays::Open].map(|trial_bays| accept(&self.order, trial_bays)))
     }
 
     /// A buffer that is too short, now and then; the answer is 1 whatever the order.
@@ -272,16 +281,28 @@ impl Case<'_> {
         self.log(&plan, not_laid(refusal), dose, &meter::RAGGED)
     }
 
-    /// Planning alone, and judging where the order is refused.
+    /// Planning alone, and judging where planning refuses the order.
     fn brief(&mut self) -> Result<(), Difference> {
-        let own = accept(&self.order);
-        self.plan(&own, PLAN_BUFFER)?;
-        own.err().map_or(Ok(()), |refusal| self.refused(refusal))
+        let [new, old] = self.own()?;
+        self.plan(&new, PLAN_BUFFER)?;
+        match old {
+            Err(refusal) => self.refused(refusal),
+            Ok(house) if new.is_err() => self.judge(&house, &house.plan(None)).map(|_| ()),
+            Ok(_) => Ok(()),
+        }
+    }
+
+    /// Every length of order from 0 to 1,700, of these records.
+    fn lengths(&mut self, long: &[u8]) -> Result<(), Difference> {
+        (0..=1_700).try_for_each(|len| {
+            self.order = long[..len].to_vec();
+            self.brief()
+        })
     }
 
     /// Logs of dose 0 at short lengths and around the greatest.
     fn log_lengths(&mut self) -> Result<(), Difference> {
-        let house = accept(&self.order).expect("the first case is P1");
+        let house = accept(&self.order, TrialBays::Open).expect("the first case is P1");
         let (slots, plan) = (house.slots(None), house.plan(None));
         let log = meter::long(4_097, house.order.doses[0].bay, self.r);
         for len in (0..=100).chain(log::LONGEST_LOG - 33..=log.len()) {
@@ -291,22 +312,23 @@ impl Case<'_> {
     }
 
     fn run(&mut self) -> Result<(), Difference> {
-        let own = accept(&self.order);
-        self.tally.order(&own);
-        self.short(&own)?;
+        let [new, old] = self.own()?;
+        self.tally.order(&self.order, &new, &old);
+        self.short(&new)?;
         let len = PLAN_BUFFER + if self.r.once_in(8) { self.r.below(3_000) as usize } else { 0 };
-        let planned = self.plan(&own, len)?;
-        let house = match own {
+        let planned = self.plan(&new, len)?;
+        let house = match old {
             Err(refusal) => return self.refused(refusal),
             Ok(house) => house,
         };
+        // Planning gives none where trial bays are closed to it: the order is then judged and drawn with stored plans alone.
         let mut plans: Vec<Vec<u8>> = planned.into_iter().collect();
         plans.push(house.plan(None));
         plans.push(variants::standing(&house, self.r));
         plans.push(variants::standing(&house, self.r));
         for (number, plan) in plans.iter().enumerate() {
-            let planners = number == 0 && self.measure.every;
-            self.standing(&house, plan, if planners { usize::MAX } else { self.measure.slots })?;
+            let first = number == 0 && self.measure.every;
+            self.standing(&house, plan, if first { usize::MAX } else { self.measure.slots })?;
         }
         let any = self.r.below(plans.len() as u64) as usize;
         let slots = house.stands(&plans[any]).unwrap_or_default();
@@ -322,12 +344,12 @@ impl Case<'_> {
     }
 }
 
-/// The order of a case: document 01's examples and the samples first, then by chance.
+/// The order of a case: the fixed ones first, then by chance.
 pub fn order_of(number: u64, r: &mut Random) -> Vec<u8> {
     cases::fixed().into_iter().nth(number as usize).unwrap_or_else(|| near::bytes(r))
 }
 
-/// Runs one case of a seed. The first also takes lengths of logs, and every length of order from 0 to 1,700.
+/// Runs one case of a seed. The first also takes lengths of logs, and every length of order, with and without a trial bay.
 pub fn case(peer: &dyn Peer, seed: u64, number: u64, measure: Measure, tally: &mut Tally) -> Result<(), Difference> {
     let mut r = Random::of_case(seed, number);
     let order = order_of(number, &mut r);
@@ -335,11 +357,10 @@ pub fn case(peer: &dyn Peer, seed: u64, number: u64, measure: Measure, tally: &m
     case.run()?;
     if number == 0 {
         case.log_lengths()?;
-        let long = near::long(case.r);
-        for len in 0..=1_700 {
-            case.order = long[..len].to_vec();
-            case.brief()?;
-        }
+        let mut long = near::long(case.r);
+        case.lengths(&long)?;
+        put(&mut long[TRIAL_RECORD * RECORD..], 2, 2, FIRST_TRIAL_BAY);
+        case.lengths(&long)?;
     }
     Ok(())
 }

@@ -4,12 +4,12 @@ use crate::answers::{accept, refused, House};
 use crate::cases::{order, p1, p2, p6, TOP};
 use crate::checks::Checks;
 use crate::layout::Slot;
-use crate::orders::{write, Order, WEEK};
+use crate::orders::{write, Order, TrialBays, WEEK};
 
 /// An example with the second program's plan for it; the shares of the examples are not open.
 pub fn example(o: &Order) -> (Vec<u8>, House, Vec<Slot>, Vec<u8>) {
     let bytes = write(o, 1);
-    let house = accept(&bytes).expect("an accepted order");
+    let house = accept(&bytes, TrialBays::Open).expect("an accepted order");
     let (slots, plan) = (house.slots(None), house.plan(None));
     (bytes, house, slots, plan)
 }

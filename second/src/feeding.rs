@@ -5,7 +5,7 @@ use crate::cases::{amounts, example, order, TOP};
 use crate::checks::Checks;
 use crate::layout::{plan_bytes, Slot};
 use crate::library::{Drawn, Judged, DOSING, FINISHED, IDLE, SHUT};
-use crate::orders::{write, Order};
+use crate::orders::{write, Order, TrialBays};
 use crate::random::Random;
 use crate::seconds::sentences;
 use crate::variants::sorted;
@@ -72,7 +72,7 @@ type Piece = (u32, u32, u64, u64);
 /// A plan that is not the planner's, put in order. It must stand and be true to C-12.
 fn laid(c: &mut Checks, name: &str, o: &Order, pieces: &[Piece]) -> Vec<u8> {
     let bytes = write(o, 0);
-    let house = accept(&bytes).expect("an accepted order");
+    let house = accept(&bytes, TrialBays::Open).expect("an accepted order");
     let model = house.slots(None)[0];
     let slots = sorted(&house, pieces.iter().map(|&(dose, fan, from, to)| Slot { dose, fan, ..model.cut(from, to) }).collect());
     let plan = plan_bytes(&house.classes, &slots);

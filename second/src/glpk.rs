@@ -2,6 +2,7 @@
 
 use crate::answers::{accept, House};
 use crate::bench::median;
+use crate::orders::TrialBays;
 use std::fmt::Write;
 use std::path::{Path, PathBuf};
 use std::process::{Command, Stdio};
@@ -77,6 +78,6 @@ impl Drop for Folder {
 pub fn time(orders: &[Vec<u8>]) -> Result<f64, &'static str> {
     let folder = Folder(std::env::temp_dir().join(format!("shares-{}", std::process::id())));
     std::fs::create_dir_all(&folder.0).map_err(|_| "no folder")?;
-    let houses = orders.iter().filter_map(|bytes| accept(bytes).ok());
+    let houses = orders.iter().filter_map(|bytes| accept(bytes, TrialBays::Closed).ok());
     houses.map(|house| beyond_empty(&house, &folder.0)).collect::<Result<Vec<f64>, _>>().map(median)
 }

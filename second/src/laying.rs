@@ -7,7 +7,7 @@ use crate::checks::Checks;
 use crate::drawing::example;
 use crate::library::Laid;
 use crate::log::{meter_record, COUNTER, FLOW, LONGEST_LOG, MISSING};
-use crate::orders::{write, RECORD, WEEK};
+use crate::orders::{write, Order, RECORD, WEEK};
 
 /// A record as a house sends it: tick, form and value.
 type Sent = (u32, u32, u32);
@@ -67,13 +67,19 @@ fn fourteen(place: usize) -> Laid {
     not_laid(refusal(14, place))
 }
 
-pub fn figures(c: &mut Checks) {
-    let (bytes, _, _, plan) = example(&p1(TOP));
+/// The rows beside P1 in any bays.
+pub fn rows(c: &mut Checks, o: &Order) {
+    let (bytes, _, _, plan) = example(o);
     for (name, sent, figures) in ROWS {
-        c.log(name, &bytes, &plan, 0, &records(1, sent), laid(figures));
+        c.log(name, &bytes, &plan, 0, &records(o.doses[0].bay, sent), laid(figures));
     }
-    let other = records(2, &[(1, COUNTER, 0), (3, COUNTER, 8)]);
+    let other = records(o.doses[1].bay, &[(1, COUNTER, 0), (3, COUNTER, 8)]);
     c.log("dose 1", &bytes, &plan, 1, &other, laid((8_192, 8_192, 0)));
+}
+
+pub fn figures(c: &mut Checks) {
+    rows(c, &p1(TOP));
+    let (bytes, _, _, plan) = example(&p1(TOP));
     for power in 0..20 {
         let (first, last) = ((1u32 << power) as f32, ((2u64 << power) - 1).min(1_024_000) as f32);
         for flow in [first, last] {

@@ -9,6 +9,7 @@ mod cases;
 mod checks;
 mod classes;
 mod clauses;
+mod closing;
 mod compare;
 mod demand3;
 mod drawing;
@@ -47,6 +48,9 @@ mod stands;
 mod stretches;
 mod styles;
 mod tally;
+mod trial;
+#[cfg(feature = "errors")]
+mod trial_slips;
 mod variants;
 mod verdicts;
 

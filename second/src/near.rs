@@ -1,6 +1,6 @@
 //! Bytes that are nearly orders: every refusal, damaged bytes, any length.
 
-use crate::orders::{dose_record, fan_record, number, put, Dose, MILLION, RECORD, WEEK};
+use crate::orders::{dose_record, fan_record, number, put, Dose, FIRST_TRIAL_BAY, LAST_BAY, MILLION, RECORD, WEEK};
 use crate::random::Random;
 use crate::styles;
 
@@ -27,8 +27,8 @@ type Edge = (usize, usize, u32);
 
 const DOSE_EDGES: [Edge; 17] = [
     (2, 2, 0),
-    (2, 2, 1_000),
-    (2, 2, 999),
+    (2, 2, LAST_BAY + 1),
+    (2, 2, LAST_BAY),
     (2, 2, 65_535),
     (4, 4, WEEK),
     (4, 4, WEEK - 1),
@@ -71,6 +71,24 @@ fn to_edge(bytes: &mut [u8], at: usize, edges: &[Edge], r: &mut Random) {
 fn short_window(bytes: &mut [u8], at: usize, r: &mut Random) {
     let release = number(&bytes[at..], 4, 4);
     put(&mut bytes[at..], 8, 4, release.wrapping_add(r.below(2) as u32));
+}
+
+/// Fields that no dose may have.
+const OUT_OF_RANGE: [Edge; 6] = [(4, 4, WEEK), (8, 4, 0), (8, 4, WEEK + 1), (12, 4, 0), (12, 4, MILLION + 1), (12, 4, u32::MAX)];
+
+/// A dose put into a trial bay, with a fault in its own record or in any, before it or behind; or put into a bay beside the trial bays.
+fn near_trial_bays(bytes: &mut [u8], r: &mut Random) {
+    let Some(at) = any(r, &records(bytes, b'D')) else { return };
+    let whole = (bytes.len() / RECORD) as u64;
+    let other = if r.once_in(2) { at } else { r.below(whole) as usize * RECORD };
+    let bay = styles::trial_bay(r);
+    put(&mut bytes[at..], 2, 2, bay);
+    match r.below(4) {
+        0 => bytes[other] = r.pick(&[0, b'C', b'd', 255]),
+        1 => bytes[other + r.pick(&[1, 16, 20, 31])] = r.pick(&[1, 128, 255]),
+        2 => to_edge(bytes, other, &OUT_OF_RANGE, r),
+        _ => put(&mut bytes[at..], 2, 2, r.pick(&[FIRST_TRIAL_BAY - 1, LAST_BAY + 1])),
+    }
 }
 
 /// A dose in the bay of another, overlapping, touching or apart by a second.
@@ -127,7 +145,7 @@ fn spoil(bytes: &mut Vec<u8>, r: &mut Random) {
         },
         8 => {
             for i in 0..r.range(1, 30) {
-                let d = Dose { bay: 1 + (whole as u32 * 7 + i) % 999, release: i, deadline: i + 1, grams: 1 };
+                let d = Dose { bay: 1 + (whole as u32 * 7 + i) % LAST_BAY, release: i, deadline: i + 1, grams: 1 };
                 insert(bytes, &dose_record(&d), r);
             }
         }
@@ -155,7 +173,7 @@ fn any_length(r: &mut Random) -> Vec<u8> {
     }
 }
 
-/// More right records than an order may have.
+/// More right records than an order may have, all of open bays.
 pub fn long(r: &mut Random) -> Vec<u8> {
     let mut all = fan_record(r.range(1, 8), MILLION, 1).to_vec();
     for i in 0..60 {
@@ -175,6 +193,9 @@ pub fn bytes(r: &mut Random) -> Vec<u8> {
         for _ in 0..r.pick(&[1, 1, 1, 2, 3]) {
             spoil(&mut bytes, r);
         }
+    }
+    if r.once_in(10) {
+        near_trial_bays(&mut bytes, r);
     }
     bytes
 }

@@ -1,10 +1,21 @@
-//! F and D records: reading an order, refusals 2 to 8 with their place, and writing one.
+//! F and D records: reading an order, refusals 2 to 8 and 15 with their place, and writing one.
 
 pub const RECORD: usize = 32;
 pub const LONGEST_ORDER: usize = 1_600;
 pub const MOST_DOSES: usize = 24;
 pub const WEEK: u32 = 604_800;
 pub const MILLION: u32 = 1_000_000;
+pub const LAST_BAY: u32 = 999;
+/// "Bays 900 to 999 were for demonstrations and no house has one now."
+pub const FIRST_TRIAL_BAY: u32 = 900;
+
+/// Whether an order may name trial bays. Closed: "New orders that name them are not planned." Open: "Old orders and their plans are still
+/// judged, drawn and replayed, since growers look back at past seasons."
+#[derive(Clone, Copy, Debug, PartialEq, Eq)]
+pub enum TrialBays {
+    Open,
+    Closed,
+}
 
 #[derive(Clone, Copy, Debug, PartialEq, Eq)]
 pub struct Dose {
@@ -45,8 +56,18 @@ fn between(low: u32, x: u32, high: u32) -> bool {
     low <= x && x <= high
 }
 
-/// Reads an order: 2, then record by record 3, 4, 5, then 6, 7, 8.
-pub fn read(bytes: &[u8]) -> Result<Order, Refusal> {
+pub fn is_trial_bay(bay: u32) -> bool {
+    between(FIRST_TRIAL_BAY, bay, LAST_BAY)
+}
+
+fn in_range(d: &Dose) -> bool {
+    let window = d.release < WEEK && between(d.release + 1, d.deadline, WEEK);
+    between(1, d.bay, LAST_BAY) && window && between(1, d.grams, MILLION)
+}
+
+/// Reads an order: 2, then record by record 3, 4, 5 and, where trial bays are closed, 15 "in 5's place for that record after 5 itself"; then
+/// 6, 7, 8.
+pub fn read(bytes: &[u8], trial_bays: TrialBays) -> Result<Order, Refusal> {
     let refuse = |number, place| Err(Refusal { number, place });
     if !bytes.len().is_multiple_of(RECORD) || bytes.len() > LONGEST_ORDER {
         return refuse(2, 0);
@@ -70,10 +91,11 @@ pub fn read(bytes: &[u8]) -> Result<Order, Refusal> {
                     return refuse(4, place);
                 }
                 let d = Dose { bay: number(r, 2, 2), release: number(r, 4, 4), deadline: number(r, 8, 4), grams: number(r, 12, 4) };
-                let right =
-                    between(1, d.bay, 999) && d.release < WEEK && between(d.release + 1, d.deadline, WEEK) && between(1, d.grams, MILLION);
-                if !right {
+                if !in_range(&d) {
                     return refuse(5, place);
+                }
+                if trial_bays == TrialBays::Closed && is_trial_bay(d.bay) {
+                    return refuse(15, place);
                 }
                 doses.push((place, d));
             }

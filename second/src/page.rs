@@ -6,7 +6,7 @@ use crate::glpk;
 use crate::library::Peer;
 use crate::machine::{processor, today};
 use crate::near;
-use crate::orders::read;
+use crate::orders::{read, TrialBays};
 use crate::random::Random;
 use crate::styles::{OVER_THE_WEEK, SPREAD};
 use std::fmt::Write;
@@ -111,7 +111,7 @@ fn log_table(text: &mut String, r: &mut Random) -> [f64; 2] {
 /// The greatest stacks of each side; the answer is the library's. Spread orders lead to the longest chains.
 fn stack_table(text: &mut String, r: &mut Random) -> [usize; 5] {
     let mut orders: Vec<Vec<u8>> = kinds(24, STACK_ORDERS, r).into_iter().flat_map(|(_, orders)| orders).collect();
-    let valid = std::iter::repeat_with(|| near::bytes(r)).filter(|bytes| read(bytes).is_ok());
+    let valid = std::iter::repeat_with(|| near::bytes(r)).filter(|bytes| read(bytes, TrialBays::Closed).is_ok());
     orders.extend(valid.take(STACK_ORDERS));
     writeln!(text, "| side | {} |\n|---|---|---|---|---|---|", STACKED.join(" | ")).unwrap();
     let all: Vec<[usize; 5]> = SIDES.iter().map(|side| stacks(*side, &orders)).collect();

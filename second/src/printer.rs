@@ -5,6 +5,7 @@ use crate::layout::Slot;
 use crate::library::Judged;
 use crate::line::State;
 use crate::log::{self, PER_GRAM};
+use crate::orders::TrialBays;
 use std::fmt::Write;
 
 /// At most 1,601 bytes are read.
@@ -18,7 +19,7 @@ fn refusal(j: &Judged) -> String {
 }
 
 pub fn plan(order: &[u8]) -> String {
-    match accept(&order[..order.len().min(READ)]) {
+    match accept(&order[..order.len().min(READ)], TrialBays::Closed) {
         Err(j) => refusal(&j),
         Ok(house) => lines(&house, &house.slots(None)),
     }
@@ -38,9 +39,9 @@ pub fn lines(house: &House, slots: &[Slot]) -> String {
     text
 }
 
-/// The classes of an order, each as a set with its W and P, or its refusal.
+/// The classes of an order, each as a set with its W and P, or its refusal, as judging reads it.
 pub fn classes(order: &[u8]) -> String {
-    match accept(order) {
+    match accept(order, TrialBays::Open) {
         Err(j) => refusal(&j),
         Ok(house) => house.classes.iter().map(|c| format!("class {} {} {}\n", c.set, c.weight, c.time)).collect(),
     }
@@ -59,10 +60,16 @@ fn log_of(house: &House, slots: &[Slot], dose: usize, bytes: &[u8]) -> String {
     }
 }
 
-/// Doses, classes, the plan's verdict and a dose's log, in words.
+/// Doses, classes, the plan's verdict and a dose's log, in words; the order as judging reads it, and what planning alone says of it.
 pub fn case(order: &[u8], plan: Option<&[u8]>, log: Option<(usize, &[u8])>) {
     println!("{} bytes of order", order.len());
-    let house = match accept(order) {
+    let old = accept(order, TrialBays::Open);
+    if let Err(j) = accept(order, TrialBays::Closed) {
+        if old.as_ref().err() != Some(&j) {
+            print!("in planning alone: {}", refusal(&j));
+        }
+    }
+    let house = match old {
         Err(j) => {
             print!("{}", refusal(&j));
             return;

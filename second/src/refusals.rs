@@ -1,12 +1,12 @@
-//! Refusals 1 to 9 asked of a peer: each alone, every field at its edges, and several faults at once.
+//! Refusals 1 to 9 asked of a peer: each alone, every field at its edges, and several faults at once. All of open bays.
 
 use crate::answers::{refusal, PLAN_BUFFER};
 use crate::cases::{one_bay, order, p1, p2, p9, TOP};
 use crate::checks::Checks;
 use crate::library::{Judged, Planned};
-use crate::orders::{dose_record, fan_record, put, write, Dose, MILLION, RECORD, WEEK};
+use crate::orders::{dose_record, fan_record, put, write, Dose, FIRST_TRIAL_BAY, LAST_BAY, MILLION, RECORD, WEEK};
 
-const TOO_SHORT: Planned = Planned { number: 1, place: 0, set: 0, weight: 0, time: 0, classes: 0, slots: 0 };
+pub const TOO_SHORT: Planned = Planned { number: 1, place: 0, set: 0, weight: 0, time: 0, classes: 0, slots: 0 };
 
 /// F and so many doses of a bay each, one after the other.
 fn row(doses: u32) -> Vec<u8> {
@@ -15,7 +15,7 @@ fn row(doses: u32) -> Vec<u8> {
 }
 
 /// The same bytes with some bytes put to others.
-fn with(bytes: &[u8], changes: &[(usize, u8)]) -> Vec<u8> {
+pub fn with(bytes: &[u8], changes: &[(usize, u8)]) -> Vec<u8> {
     let mut bytes = bytes.to_vec();
     changes.iter().for_each(|&(at, value)| bytes[at] = value);
     bytes
@@ -79,7 +79,7 @@ pub fn edges(c: &mut Checks) {
             edge(c, name, record, (at, 4, value), good);
         }
     }
-    for (bay, good) in [(0, false), (1, true), (900, true), (999, true), (1_000, false), (65_535, false)] {
+    for (bay, good) in [(0, false), (1, true), (FIRST_TRIAL_BAY - 1, true), (LAST_BAY + 1, false), (65_535, false)] {
         edge(c, "bay", 2, (2, 2, bay), good);
     }
     // The window of record 2 is [6, 12).

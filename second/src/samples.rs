@@ -1,9 +1,9 @@
-//! The sample orders.
+//! The sample orders, and a stored plan.
 
 use crate::answers::accept;
 use crate::cases::{examples, order, p2, TOP};
 use crate::compare::order_of;
-use crate::orders::{write, Dose, Order};
+use crate::orders::{write, Dose, Order, TrialBays};
 use crate::random::Random;
 use crate::variants::{damage, standing};
 use std::path::Path;
@@ -13,8 +13,11 @@ const HARD: &[u8] = include_bytes!("../../samples/hard.order");
 /// Hour and minute.
 type Clock = (u32, u32);
 
-/// A day of a house: bay, release, deadline, grams.
-const DAY: [(u32, Clock, Clock, u32); 24] = [
+/// Bay, release, deadline, grams.
+type Row = (u32, Clock, Clock, u32);
+
+/// A day of a house.
+const DAY: [Row; 24] = [
     (101, (5, 30), (6, 15), 1_800),
     (102, (5, 30), (6, 15), 1_800),
     (103, (5, 45), (7, 0), 2_400),
@@ -38,13 +41,37 @@ const DAY: [(u32, Clock, Clock, u32); 24] = [
     (106, (9, 15), (9, 16), 75),
     (107, (11, 0), (13, 0), 6_400),
     (201, (0, 0), (24, 0), 20_000),
-    (901, (17, 59), (18, 0), 30),
+    (202, (17, 59), (18, 0), 30),
 ];
 
-fn house() -> Order {
+/// A new order that names a trial bay, and then a dose of no grams: the trial bay comes first in planning, and judging meets the grams.
+const TRIAL: [Row; 3] = [(101, (6, 0), (6, 30), 1_800), (950, (6, 10), (6, 40), 1_200), (102, (6, 20), (7, 0), 0)];
+
+/// An old order with trial bays, from when they were open. Its shares are forced.
+const OLD: [Row; 5] = [
+    (101, (6, 0), (6, 20), 1_500),
+    (102, (6, 0), (6, 30), 2_400),
+    (950, (6, 10), (6, 30), 1_200),
+    (901, (6, 25), (7, 0), 900),
+    (101, (6, 30), (6, 50), 1_000),
+];
+
+fn order_on(fans: u32, rows: &[Row]) -> Order {
     let seconds = |(h, m): Clock| h * 3_600 + m * 60;
     let dose = |&(bay, from, to, grams): &_| Dose { bay, release: seconds(from), deadline: seconds(to), grams };
-    Order { fans: 8, top_grams: 7, top_seconds: 2, doses: DAY.iter().map(dose).collect() }
+    Order { fans, top_grams: 7, top_seconds: 2, doses: rows.iter().map(dose).collect() }
+}
+
+fn house() -> Order {
+    order_on(8, &DAY)
+}
+
+pub fn old() -> Vec<u8> {
+    write(&order_on(2, &OLD), 0)
+}
+
+pub fn old_plan() -> Vec<u8> {
+    accept(&old(), TrialBays::Open).expect("an old order").plan(None)
 }
 
 /// The samples by name.
@@ -56,27 +83,29 @@ pub fn all() -> Vec<(&'static str, Vec<u8>)> {
     // The middle dose is cut in two within its one second.
     let cut = write(&order(2, TOP, &[(5, 6, 10); 3]), 0);
     let own = [("p2", write(&p2(), 0)), ("house", write(&house(), 0)), ("fast", write(&fast, 0)), ("damaged", damaged)];
-    own.into_iter().chain([("hard", HARD.to_vec()), ("cut", cut)]).collect()
+    let later = [("hard", HARD.to_vec()), ("cut", cut), ("trial", write(&order_on(2, &TRIAL), 0)), ("old", old())];
+    own.into_iter().chain(later).collect()
 }
 
-fn put(folder: &Path, name: &str, bytes: &[u8]) -> bool {
-    let file = folder.join(format!("{name}.order"));
+fn put(folder: &Path, name: &str, end: &str, bytes: &[u8]) -> bool {
+    let file = folder.join(format!("{name}.{end}"));
     let written = std::fs::write(&file, bytes);
     println!("{}: {}", file.display(), written.as_ref().map_or_else(ToString::to_string, |()| format!("{} bytes", bytes.len())));
     written.is_ok()
 }
 
-/// Writes NAME.order for each sample, and in cases/ for P1 to P12; the texts beside them are the printer's own.
+/// Writes NAME.order for each sample, and in cases/ for P1 to P12; the texts beside them are the printer's own. Also the old order's plan.
 pub fn make(folder: &str) -> bool {
     let (samples, cases) = (Path::new(folder), Path::new(folder).join("cases"));
     std::fs::create_dir_all(&cases).is_ok()
-        && all().iter().all(|(name, bytes)| put(samples, name, bytes))
-        && examples().iter().all(|(name, bytes)| put(&cases, name, bytes))
+        && all().iter().all(|(name, bytes)| put(samples, name, "order", bytes))
+        && put(samples, "old", "plan", &old_plan())
+        && examples().iter().all(|(name, bytes)| put(&cases, name, "order", bytes))
 }
 
-/// A plan for an order: one that stands or a damaged one, and for a refused order no bytes.
+/// A plan for an order as judging reads it: one that stands or a damaged one, and for a refused order no bytes.
 fn plan_for(order: &[u8], r: &mut Random) -> Vec<u8> {
-    let plan = accept(order).map_or_else(|_| Vec::new(), |house| standing(&house, r));
+    let plan = accept(order, TrialBays::Open).map_or_else(|_| Vec::new(), |house| standing(&house, r));
     if r.once_in(2) {
         damage(&plan, r)
     } else {

@@ -8,11 +8,11 @@ use crate::intervals::Intervals;
 use crate::layout::{plan_bytes, Slot};
 use crate::log::{flow, flow_bits, TOP_FLOW};
 use crate::measure::LITTLE;
-use crate::orders::{write, Order, RECORD};
+use crate::orders::{write, Order, TrialBays, RECORD};
 use crate::random::Random;
 use crate::runs;
 use crate::stands::{Broken, CLAUSES};
-use crate::{alone, clauses, seconds, styles, variants};
+use crate::{alone, clauses, near, seconds, styles, trial, variants};
 use std::time::Instant;
 
 fn fail(what: &str, case: u64, order: &Order) -> bool {
@@ -41,6 +41,23 @@ fn classes(cases: u64, seed: u64) -> bool {
         }
     }
     took(&format!("subset classes equal flow classes on {cases} orders, by doses {counts:?}"), began);
+    true
+}
+
+/// C-14's sentences about orders and nearly orders.
+fn reads(cases: u64, seed: u64) -> bool {
+    let began = Instant::now();
+    let mut closed = 0;
+    for case in 0..cases {
+        match trial::sentence(&near::bytes(&mut Random::of_case(seed, case))) {
+            Ok(differ) => closed += u64::from(differ),
+            Err(what) => {
+                println!("case {case}: {what}");
+                return false;
+            }
+        }
+    }
+    took(&format!("planning and judging read {cases} orders alike, but for {closed} with trial bays"), began);
     true
 }
 
@@ -78,7 +95,7 @@ fn plans(cases: u64, seed: u64) -> bool {
     for case in 0..cases {
         let mut r = Random::of_case(seed ^ 0xA5A5, case);
         let (order, _) = styles::valid(&mut r);
-        let Ok(house) = accept(&write(&order, 0)) else { continue };
+        let Ok(house) = accept(&write(&order, 0), TrialBays::Open) else { continue };
         // With shares that meet every need, falling rates make these sets the classes.
         if !house.classes.windows(2).all(|w| w[1].weight * w[0].time < w[0].weight * w[1].time) {
             return fail("class rates do not fall", case, &order);
@@ -171,7 +188,7 @@ fn damage(cases: u64, seed: u64) -> bool {
         let mut r = Random::of_case(seed ^ 0x5A5A, case);
         let (mut order, _) = styles::valid(&mut r);
         order.doses.truncate(8);
-        let Ok(house) = accept(&write(&order, 0)) else { continue };
+        let Ok(house) = accept(&write(&order, 0), TrialBays::Open) else { continue };
         let plan = variants::standing(&house, &mut r);
         let slots = house.stands(&plan).expect("a standing plan");
         if let Err(what) = met.spoil(&house, &plan, &slots, &mut r) {
@@ -190,6 +207,7 @@ pub fn run(cases: u64, seed: u64) -> bool {
     println!("seed {seed}, cases {cases}");
     let mut good = checks::run(&OWN);
     good = flows() && good;
+    good = reads(2 * cases, seed) && good;
     good = classes(2 * cases, seed) && good;
     good = plans(cases, seed) && good;
     good = damage(cases / 4, seed) && good;

@@ -1,4 +1,4 @@
-//! Test builds only: errors that look right, each built into a copy of the planner, the judge, the line or the log.
+//! Test builds only: errors that look right, each built into a copy of the reader, the planner, the judge, the line or the log.
 
 use crate::answers::{drawn, not_drawn, not_laid, planned, refusal, refused, House, OWN, PLAN_BUFFER};
 use crate::classes::{by_flow, open_time, too_fast, weight_of, Class, FEW};
@@ -8,7 +8,7 @@ use crate::intervals::Intervals;
 use crate::layout::{plan_bytes, wrap, Slot};
 use crate::library::{Drawn, Judged, Laid, Peer, Planned};
 use crate::measure::USUAL;
-use crate::orders::{read, Order, RECORD, WEEK};
+use crate::orders::{Order, TrialBays, RECORD, WEEK};
 use crate::runs::guarded;
 use crate::shares::Shares;
 use crate::tally::Tally;
@@ -47,11 +47,22 @@ pub enum Slip {
     InfiniteIsTop,
     NoMinusZero,
     OneTooMany,
+    PlannedAsBefore,
+    ClosedToJudging,
+    ClosedToDrawing,
+    LastOpenClosed,
+    LastTrialOpen,
+    PastLastClosed,
+    FifteenBeforeFive,
+    FifteenBeforeFour,
+    FifteenAfterRecords,
+    FifteenAfterEight,
+    DoseForPlace,
 }
 
 use Slip::*;
 
-pub const SLIPS: [(Slip, &str); 32] = [
+pub const SLIPS: [(Slip, &str); 43] = [
     (FansUsed, "Fig. 2, line 6 as printed: the smaller of active doses and fans already used"),
     (FansUsedLater, "the same, but the first class sees all fans"),
     (AnySet, "any set of greatest rate: the last one met"),
@@ -84,6 +95,17 @@ pub const SLIPS: [(Slip, &str); 32] = [
     (InfiniteIsTop, "log: an infinite flow read as 1,000"),
     (NoMinusZero, "log: minus zero refused"),
     (OneTooMany, "log: 4,097 records laid"),
+    (PlannedAsBefore, "trial bays planned as before"),
+    (ClosedToJudging, "15 in judging, drawing and laying too"),
+    (ClosedToDrawing, "15 in drawing and laying too"),
+    (LastOpenClosed, "bay 899 taken for a trial bay"),
+    (LastTrialOpen, "bay 999 not taken for a trial bay"),
+    (PastLastClosed, "bay 1,000 taken for a trial bay: 15 where 5 is due"),
+    (FifteenBeforeFive, "15 before 5"),
+    (FifteenBeforeFour, "15 before 4 and 5"),
+    (FifteenAfterRecords, "15 looked for after all records, before 6"),
+    (FifteenAfterEight, "15 looked for after 8"),
+    (DoseForPlace, "15 with the dose's number as place"),
 ];
 
 /// A copy of the second program with one error in it.
@@ -135,8 +157,8 @@ impl Slipped {
         classes
     }
 
-    fn accept(&self, bytes: &[u8]) -> Result<House, Judged> {
-        let order = read(bytes).map_err(|r| refusal(r.number, r.place))?;
+    fn accept(&self, bytes: &[u8], trial_bays: TrialBays) -> Result<House, Judged> {
+        let order = self.read(bytes, trial_bays).map_err(|r| refusal(r.number, r.place))?;
         let spans = Intervals::of(&order);
         let classes = self.classes(&order, &spans);
         let over = |c: &Class| match self.0 {
@@ -200,7 +222,7 @@ impl Slipped {
     }
 
     fn ask(&self, order: &[u8], plan: &[u8], dose: usize, tick: u32, late: bool) -> Drawn {
-        let house = match self.accept(order) {
+        let house = match self.accept(order, self.drawn_with()) {
             Err(j) => return not_drawn(j),
             Ok(house) => house,
         };
@@ -225,7 +247,7 @@ impl Peer for Slipped {
         if plan.len() < PLAN_BUFFER {
             return Planned { number: 1, ..Planned::default() };
         }
-        let mut house = match self.accept(order) {
+        let mut house = match self.accept(order, TrialBays::Closed) {
             Err(j) => return planned(j),
             Ok(house) => house,
         };
@@ -245,7 +267,7 @@ impl Peer for Slipped {
     }
 
     fn judge(&self, order: &[u8], plan: &[u8]) -> Judged {
-        match self.accept(order) {
+        match self.accept(order, TrialBays::Open) {
             Err(j) => j,
             Ok(house) if self.stands(&house, plan).is_ok() => Judged::default(),
             Ok(_) => refusal(10, 0),
@@ -265,7 +287,7 @@ impl Peer for Slipped {
     }
 
     fn log(&self, order: &[u8], plan: &[u8], dose: usize, log: &[u8]) -> Laid {
-        match self.accept(order) {
+        match self.accept(order, self.drawn_with()) {
             Err(j) => not_laid(j),
             Ok(house) => self.stands(&house, plan).map_or(not_laid(refusal(10, 0)), |slots| self.lay(&house, &slots, dose, log)),
         }

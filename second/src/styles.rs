@@ -2,7 +2,7 @@
 
 use crate::classes;
 use crate::intervals::Intervals;
-use crate::orders::{read, write, Dose, Order, MILLION, MOST_DOSES, WEEK};
+use crate::orders::{read, write, Dose, Order, TrialBays, FIRST_TRIAL_BAY, LAST_BAY, MILLION, MOST_DOSES, WEEK};
 use crate::random::Random;
 
 const HARD: &[u8] = include_bytes!("../../samples/hard.order");
@@ -123,7 +123,7 @@ fn touching(n: usize, r: &mut Random) -> Vec<Dose> {
             break;
         }
         at[bay as usize] = deadline;
-        doses.push(Dose { bay: bay * 333, release, deadline, grams: some_grams(r) });
+        doses.push(Dose { bay: bay * 299, release, deadline, grams: some_grams(r) });
     }
     r.shuffle(&mut doses);
     doses
@@ -131,7 +131,7 @@ fn touching(n: usize, r: &mut Random) -> Vec<Dose> {
 
 /// The hard sample with a few doses changed or left out.
 fn hard(r: &mut Random) -> Vec<Dose> {
-    let mut doses = read(HARD).expect("the sample is an order").doses;
+    let mut doses = read(HARD, TrialBays::Closed).expect("the sample is an order").doses;
     for _ in 0..r.below(4) {
         let i = r.below(doses.len() as u64) as usize;
         match r.below(3) {
@@ -143,10 +143,35 @@ fn hard(r: &mut Random) -> Vec<Dose> {
     doses
 }
 
+/// An open bay for each.
 fn own_bays(list: Vec<(u32, u32, u32)>, r: &mut Random) -> Vec<Dose> {
-    let mut bays: Vec<u32> = (1..=999).collect();
+    let mut bays: Vec<u32> = (1..FIRST_TRIAL_BAY).collect();
     r.shuffle(&mut bays);
     list.into_iter().zip(bays).map(|((release, deadline, grams), bay)| Dose { bay, release, deadline, grams }).collect()
+}
+
+/// The last open bays.
+const LAST_OPEN: [u32; 2] = [FIRST_TRIAL_BAY - 2, FIRST_TRIAL_BAY - 1];
+
+/// A trial bay: the first ones, the last ones, one between, and any.
+pub fn trial_bay(r: &mut Random) -> u32 {
+    let any = r.range(FIRST_TRIAL_BAY, LAST_BAY);
+    r.pick(&[FIRST_TRIAL_BAY, FIRST_TRIAL_BAY + 1, FIRST_TRIAL_BAY + 50, LAST_BAY - 1, LAST_BAY, any])
+}
+
+/// Bays renamed, all doses of a bay alike, so that windows stay apart: one order in five has trial bays, another one the last open bays.
+fn rename(doses: &mut [Dose], r: &mut Random) {
+    let how = r.below(5);
+    if doses.is_empty() || how > 1 {
+        return;
+    }
+    for _ in 0..r.pick(&[1, 1, 2, doses.len()]) {
+        let old = r.pick(doses).bay;
+        let new = if how == 0 { trial_bay(r) } else { r.pick(&LAST_OPEN) };
+        if doses.iter().all(|d| d.bay != new) {
+            doses.iter_mut().filter(|d| d.bay == old).for_each(|d| d.bay = new);
+        }
+    }
 }
 
 /// Sets the top rate just at, just above or just below the first class's rate, or anywhere.
@@ -177,7 +202,7 @@ fn set_top(order: &mut Order, r: &mut Random) {
 pub fn valid(r: &mut Random) -> (Order, usize) {
     let style = r.below(STYLES.len() as u64) as usize;
     let n = count(r);
-    let doses = match style {
+    let mut doses = match style {
         3 => touching(n, r),
         10 => hard(r),
         _ => {
@@ -185,6 +210,7 @@ pub fn valid(r: &mut Random) -> (Order, usize) {
             own_bays(list, r)
         }
     };
+    rename(&mut doses, r);
     let mut order = Order { fans: if r.once_in(4) { r.range(1, 2) } else { r.range(1, 8) }, top_grams: 1, top_seconds: 1, doses };
     set_top(&mut order, r);
     (order, style)

@@ -7,45 +7,63 @@ use crate::log::{metered, Fault, Read, Reading, FAULTS};
 use crate::orders::Refusal;
 use crate::seconds::SECONDS;
 use crate::stands::CLAUSES;
+use crate::trial;
 
 #[derive(Clone, Default)]
 pub struct Tally {
     pub cases: u64,
-    orders: [u64; 10],
-    plannings: [u64; 13],
-    drawings: [u64; 13],
+    orders: [u64; 16],
+    old: Old,
+    plannings: [u64; 16],
+    drawings: [u64; 16],
     seconds: [u64; SECONDS.len()],
     standing: u64,
     clauses: [u64; CLAUSES.len()],
     doses: [u64; 25],
     most_slots: usize,
-    logs: [u64; 15],
+    logs: [u64; 16],
     faults: [u64; FAULTS.len()],
     stretches: [u64; STRETCHES.len()],
     most_records: usize,
+}
+
+/// What was answered of orders that name trial bays.
+#[derive(Clone, Default)]
+struct Old {
+    /// All of them by planning's answer; those that planning refuses by 15, by judging's.
+    planning: [u64; 16],
+    judging: [u64; 10],
+    /// Whether the order in hand is refused by 15; plans of such orders that stand, their points and pens, their logs.
+    in_hand: bool,
+    standing: u64,
+    drawn: u64,
+    laid: u64,
 }
 
 /// Kinds of stretches in the logs that were laid.
 const STRETCHES: [&str; 4] = ["counter", "counter that turns", "flow", "unknown"];
 
 impl Tally {
-    pub fn order(&mut self, own: &Result<House, Judged>) {
+    /// An order, as planning reads it and as judging does.
+    pub fn order(&mut self, bytes: &[u8], new: &Result<House, Judged>, old: &Result<House, Judged>) {
+        let answer = |read: &Result<House, Judged>| read.as_ref().map_or_else(|j| j.number as usize, |_| 0);
         self.cases += 1;
-        match own {
-            Ok(house) => {
-                self.orders[0] += 1;
-                self.doses[house.order.doses.len()] += 1;
-            }
-            Err(j) => self.orders[j.number as usize] += 1,
+        self.orders[answer(new)] += 1;
+        if let Ok(house) = old {
+            self.doses[house.order.doses.len()] += 1;
         }
+        self.old.in_hand = answer(new) == 15;
+        self.old.planning[answer(new)] += u64::from(trial::first_record(bytes).is_some());
+        self.old.judging[answer(old)] += u64::from(self.old.in_hand);
     }
 
     pub fn planned(&mut self, number: u32) {
-        self.plannings[number.min(12) as usize] += 1;
+        self.plannings[number.min(15) as usize] += 1;
     }
 
     pub fn drawn(&mut self, number: u32) {
-        self.drawings[number.min(12) as usize] += 1;
+        self.drawings[number.min(15) as usize] += 1;
+        self.old.drawn += u64::from(self.old.in_hand && number == 0);
     }
 
     /// A second whose state was asked for around a slot's edge.
@@ -57,6 +75,7 @@ impl Tally {
         match own {
             Ok(slots) => {
                 self.standing += 1;
+                self.old.standing += u64::from(self.old.in_hand);
                 self.most_slots = self.most_slots.max(slots.len());
             }
             Err(clause) => {
@@ -67,7 +86,8 @@ impl Tally {
     }
 
     pub fn laid(&mut self, number: u32) {
-        self.logs[number.min(14) as usize] += 1;
+        self.logs[number.min(15) as usize] += 1;
+        self.old.laid += u64::from(self.old.in_hand && number == 0);
     }
 
     /// A log asked of a plan that stands and a dose that it has.
@@ -91,6 +111,11 @@ impl Tally {
         self.most_slots = self.most_slots.max(other.most_slots);
         self.most_records = self.most_records.max(other.most_records);
         sum(&mut self.orders, &other.orders);
+        sum(&mut self.old.planning, &other.old.planning);
+        sum(&mut self.old.judging, &other.old.judging);
+        self.old.standing += other.old.standing;
+        self.old.drawn += other.old.drawn;
+        self.old.laid += other.old.laid;
         sum(&mut self.plannings, &other.plannings);
         sum(&mut self.drawings, &other.drawings);
         sum(&mut self.seconds, &other.seconds);
@@ -108,7 +133,11 @@ impl Tally {
         };
         println!("cases {}", self.cases);
         println!("orders by answer      {}", row(&self.orders));
-        println!("accepted by doses     {}", row(&self.doses));
+        println!("judged by doses       {}", row(&self.doses));
+        println!("with trial bays       {}", row(&self.old.planning));
+        println!("of 15, by judging     {}", row(&self.old.judging));
+        let Old { standing, drawn, laid, .. } = self.old;
+        println!("of 15, with plans     {standing} judged standing, {drawn} points and pens drawn, {laid} logs laid");
         println!("planning by answer    {}", row(&self.plannings));
         println!("points, pens by answer {}", row(&self.drawings));
         for (kind, n) in SECONDS.iter().zip(self.seconds) {

@@ -8,7 +8,7 @@ use crate::clauses;
 use crate::demand3;
 use crate::layout::{class_record, plan_bytes, Slot};
 use crate::library::Judged;
-use crate::orders::{write, Order, RECORD};
+use crate::orders::{write, Order, TrialBays, RECORD};
 use crate::random::Random;
 use crate::stands::Broken;
 use crate::variants::{move_blocks, permute_fans, sorted, split};
@@ -26,7 +26,7 @@ struct Bench {
 
 impl Bench {
     fn of(bytes: Vec<u8>) -> Bench {
-        let house = accept(&bytes).expect("an accepted order");
+        let house = accept(&bytes, TrialBays::Open).expect("an accepted order");
         let slots = house.slots(None);
         Bench { bytes, house, slots }
     }
@@ -176,7 +176,7 @@ pub fn broken(c: &mut Checks) {
 /// Permuted fans, split slots, other shares and blocks moved in time, on the samples.
 pub fn standing(c: &mut Checks) {
     for (name, bytes) in samples::all() {
-        if accept(&bytes).is_err() {
+        if accept(&bytes, TrialBays::Open).is_err() {
             continue;
         }
         let bench = Bench::of(bytes);
@@ -189,8 +189,8 @@ pub fn standing(c: &mut Checks) {
             ("other shares", other),
         ];
         for (shape, slots) in shapes {
-            // The shares of these two are forced, and blocks are whole seconds, of which the second has one.
-            let free = !matches!((name, shape), ("p2" | "cut", "other shares") | ("cut", "blocks moved"));
+            // The shares of these three are forced, and blocks are whole seconds, of which cut has one.
+            let free = !matches!((name, shape), ("p2" | "cut" | "old", "other shares") | ("cut", "blocks moved"));
             c.same(&format!("{name}, {shape}: another plan"), slots != bench.slots, free);
             bench.right(c, &format!("{name}, {shape}"), &plan_bytes(&bench.house.classes, &slots));
         }
