@@ -73,9 +73,11 @@ def library_for(order: Order) -> Library:
 
 
 def plan_for(order: Order, given: bytes | None) -> Plan:
-    """The plan given, or else the library's own; it stands. Judging refuses an order as planning does."""
-    library = library_for(order)
-    data = library.plan(order.data)[1] if given is None else given
+    """The plan given, or else the library's own; it stands. Only an order that is planned now may not name a trial bay."""
+    library, data = library_for(order), given
+    if data is None:
+        answer, data = library.plan(order.data)
+        check(answer, order, library)
     check(library.judge(order.data, data), order, library)
     return Plan(order, data, library)
 

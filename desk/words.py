@@ -30,6 +30,7 @@ FACTS = {
     12: "The second is past the week.",
     13: "The log has a bad length, kind, form or field, or a bay other than the dose's.",
     14: "A tick of the log is not above the one before.",
+    15: "Trial bays, 900 to 999, are closed: a new order that names one is not planned.",
 }
 LINES = 24  # of a dose in words
 GOOD = {Dose: Dose(1, 0, WEEK, 1), Fans: Fans(1, 1, 1)}
@@ -78,6 +79,9 @@ def check(answer: Answer, order: Order, library: Library, log: Log | None = None
         said, wrong_bytes = wrong_record(number, order, at, library)
         dose = f", dose {order.places.index(at)}" if at in order.places else ""
         detail = [f"record {at}, counted from 0{dose}: {said}"]
+    elif number == 15:
+        doses = [order.places.index(at)]
+        detail = [f"record {at}, counted from 0: {window_words(order, doses[0])}"]
     elif number == 8:
         detail, doses = overlap(order, order.places.index(at), library)
     elif number == 9:

@@ -27,6 +27,7 @@
  *    3  kind in an order neither F nor D              } record by record,
  *    4  a byte that must be zero isn't                } 3 before 4
  *    5  a field out of range                          } before 5
+ *   15  a trial bay, 900 to 999 (planning only)       } before 15
  *    6  F records not exactly one
  *    7  more than 24 doses
  *    8  two doses of one bay with overlapping windows
@@ -37,7 +38,7 @@
  *   13  log length no multiple of 32, or over 131,072; a record's kind, form, tick or value isn't as above, its bay isn't the dose's, or a byte
  *       that must be zero isn't
  *   14  a tick of the log is not above the one before; only where no record is 13
- * place is the record's index for 3, 4 and 5, that of the first D which overlaps an earlier one for 8, that of the first such record of the log
+ * place is the record's index for 3, 4, 5 and 15, that of the first D which overlaps an earlier one for 8, that of the first such record of the log
  * for 13 (0 for its length) and 14, else 0. With 9 come the doses of the first class as a set (bit i for dose i), their weight W, which is
  * their grams together, and their fan time P: they show that no plan exists. Fields not meant are 0.
  */
