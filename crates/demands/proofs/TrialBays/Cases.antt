@@ -1,10 +1,10 @@
 -- The table of orders with trial bays: a row that passes the computed test is right by the definitions, and every row passes. Assumes nothing.
 use mathlib.Core.Bool.{Bool}
-use mathlib.Core.Path.{_≡_, refl}
+use mathlib.Core.Path.{_≡_}
 use lib.Dec.{T, eqb, eqb→eq}
 use Rattle.model.specs.Limits.{lastOpenBay, mostBay}
 use Rattle.model.specs.Lists.{All}
-use Rattle.model.specs.Records.{Reading, read, refused}
+use Rattle.model.specs.Records.{Reading, refused}
 use Rattle.model.specs.Orders.{Order, readOrder}
 use Rattle.model.specs.Answers.{refusal, unread}
 use Rattle.model.specs.CaseTests.{readingTest}

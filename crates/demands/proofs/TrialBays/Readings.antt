@@ -2,7 +2,7 @@
 -- bay past the first one's last. Assumes nothing.
 use mathlib.Core.Bool.{Bool, true, false, _&&_}
 use mathlib.Core.Logic.{_↔_, _≢_, _⊎_, inl, inr}
-use mathlib.Core.Path.{_≡_, refl, sym, ap, subst, _∙_}
+use mathlib.Core.Path.{_≡_, refl, sym, ap, _∙_}
 use mathlib.Core.List.{List, _∷_}
 use Prim.Native.Nat.{ℕ, zero, suc, _/_, _%_, _≤_, _<_}
 use native.Mathlib.Omega.{arith}
@@ -11,7 +11,7 @@ use lib.Dec.{eqb, leb}
 use lib.ListN.{length, getD}
 use Rattle.model.specs.Limits.{orderRoom}
 use Rattle.model.specs.Records.{Reading, read, refused, pick, andThen, recordSize, fansKind, doseKind, doseParts, blankAt, recordAt, readFrom}
-use Rattle.model.specs.Orders.{Order, Dose, noDose, doseAt, Entry, fansEntry, doseEntry, doseOf, doseFits, bayOpen, dosesIn, entryOf, orderIn, orderOf, readOrder}
+use Rattle.model.specs.Orders.{Order, Dose, noDose, doseAt, Entry, fansEntry, doseEntry, doseOf, doseFits, bayOpen, dosesIn, entryOf, orderOf, readOrder}
 use Rattle.model.proofs.Fractions.{compare≤}
 use Rattle.model.proofs.Orders.{doses-of-records, no-refusal, order-in, passed, read-open, went-on}
 
