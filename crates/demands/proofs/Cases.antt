@@ -31,7 +31,7 @@ use Rattle.model.proofs.NextClass.{next-unique}
 use Rattle.model.proofs.Sequence.{classes-unique, count-unique}
 use Rattle.model.proofs.Orders.{Fit, three, no-refusal, read-fits}
 use Rattle.model.proofs.Lists.{length-singles}
-use Rattle.demands.proofs.Written.{plan-stands, plan-reads}
+use Rattle.model.proofs.Written.{plan-stands, plan-reads}
 use Rattle.model.proofs.Plans.{slots-read}
 use Rattle.demands.proofs.Demand2.Refusing.{first-class}
 use Rattle.model.proofs.Answers.{one-order, refuses-one, refused-not-accepted}

@@ -1,8 +1,6 @@
 pub mod Cases
 pub mod Instants
 pub mod FinerTime
-pub mod Laid
-pub mod Written
 pub mod Existence
 pub mod Greatest
 pub mod Demand1

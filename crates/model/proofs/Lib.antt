@@ -22,6 +22,8 @@ pub mod Slots
 pub mod Records
 pub mod Plans
 pub mod Planner
+pub mod Laid
+pub mod Written
 pub mod Windows
 pub mod ValidShares
 pub mod PlanPieces

@@ -21,7 +21,7 @@ use Rattle.model.specs.Cases.{Case, Right, listed, oneFan, caseSets, slot}
 use Rattle.model.specs.CaseTests.{faster, early, late, split}
 use Rattle.model.proofs.Lists.{Pairs-imp}
 use Rattle.model.proofs.Orders.{read-fits}
-use Rattle.demands.proofs.Written.{written-stands}
+use Rattle.model.proofs.Written.{written-stands}
 use Rattle.model.proofs.Answers.{judged-zero}
 use Rattle.demands.proofs.Cases.{cases-right}
 

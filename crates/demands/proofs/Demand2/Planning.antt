@@ -12,7 +12,7 @@ use Rattle.model.specs.Stands.{Stands}
 use Rattle.model.specs.Answers.{Accepts, Planned, Plans, done, no-room, overwritten, planBytes, plans, refuses}
 use Rattle.model.proofs.Orders.{read-fits}
 use Rattle.model.proofs.Planner.{plan-length, plan-room}
-use Rattle.demands.proofs.Written.{plan-stands}
+use Rattle.model.proofs.Written.{plan-stands}
 use Rattle.demands.proofs.Existence.{classes-of, shares-of}
 use Rattle.demands.proofs.Demand2.Refusing.{refused-names}
 

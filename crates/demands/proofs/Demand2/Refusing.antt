@@ -16,7 +16,7 @@ use Rattle.model.specs.FreePlans.{FreePlan}
 use Rattle.model.specs.Answers.{Answer, FirstClass, Refuses, above, aboveTop, tooFast, unread}
 use Rattle.model.proofs.Fractions.{compare≤}
 use Rattle.model.proofs.Orders.{Fit}
-use Rattle.demands.proofs.Laid.{laid-stand}
+use Rattle.model.proofs.Laid.{laid-stand}
 use Rattle.demands.proofs.Existence.{classes-of, shares-of}
 use Rattle.demands.proofs.Demand2.FreePieces.{free-plan, none-above}
 

@@ -4,13 +4,13 @@ use Prim.Native.Nat.{ℕ, _+_, _*_, _/_, _%_, _≤_, _<_}
 use native.Mathlib.Nat.{div-add-mod', lt-of-mul-lt-mul-right, mod-lt, mul-le-mul-right, mul-pos}
 use native.Mathlib.Omega.{arith}
 use lib.Dec.{eqb}
 use Rattle.model.specs.Sets.{sum, on}
 use Rattle.model.specs.Lists.{All, Pairs, total}
 use Rattle.model.specs.Plans.{Slot}
 use Rattle.model.specs.Layout.{Piece, Lane, laneSlots, line, pieceSlot}
 use Rattle.model.specs.Stands.{Between, EndsBy, ends, starts, unitsOf}
 use Rattle.model.proofs.Lists.{All-imp, All-map, Pairs-map, Pairs-with, total-congr, total-map}
-use Rattle.demands.proofs.Laid.Wrap.{Follow, Placed, line-follow, line-placed, line-units, units}
+use Rattle.model.proofs.Laid.Wrap.{Follow, Placed, line-follow, line-placed, line-units, units}
 
 -- a moment's fraction, put together again
 moment : (τ s W : ℕ) → (τ + s / W) * W + s % W ≡ τ * W + s

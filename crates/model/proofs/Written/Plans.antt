@@ -9,13 +9,13 @@ use borrow.Author.Tests.{eq-eqb, eqb-true}
 use lib.Dec.{eqb}
 use lib.ListN.{drop, drop-of-length-le, getD, length, length-append, length-drop, length-take, take, take-append-drop}
 use lib.Seq.{drop-at, drop-drop, take-all, take-at}
 use Rattle.model.specs.Records.{recordSize, Reading, andThen, blankAt, classParts, fieldsAt, numberAt, pick, read, readAll, readFrom, recordAt, recordBytes, refused, slotParts}
 use Rattle.model.specs.Lists.{All, also, none}
 use Rattle.model.specs.Plans.{Class, PlanRecord, Slot, classOf, classRecord, planOf, planRecordBytes, planRecordOf, planRecords, recordsBytes, slotOf, slotRecord}
 use Rattle.model.proofs.Lists.{All-append, All-map}
-use Rattle.demands.proofs.Written.Records.{Bytes, Fits, blank-back, bytes-drop, bytes-take, fields-back, fields-taken, in-field, no-part, past-blank}
+use Rattle.model.proofs.Written.Records.{Bytes, Fits, blank-back, bytes-drop, bytes-take, fields-back, fields-taken, in-field, no-part, past-blank}
 use Rattle.model.proofs.Records.{sizeOf}
 use Rattle.model.proofs.Plans.{classFields, slotFields, length-one, length-records}
 
 -- ---- fields that fit their records
 

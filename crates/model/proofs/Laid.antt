@@ -9,22 +9,22 @@ use native.Mathlib.Nat.{eq-or-lt-of-le, mul-le-mul-right, mul-lt-mul-of-pos-righ
 use native.Mathlib.Numerals.{add-one}
 use native.Mathlib.Omega.{arith}
 use lib.Dec.{T, leb, leb→le}
 use Rattle.model.specs.Sets.{Doses, sum}
 use Rattle.model.specs.Lists.{All, Pairs, total}
 use Rattle.model.specs.Orders.{Order, doseAt}
 use Rattle.model.specs.Classes.{Classes, Setting, classP, reserved}
 use Rattle.model.specs.Intervals.{activeAt, fansPresent, instantAt, intervalCount, settingOf}
 use Rattle.model.specs.Plans.{Slot}
 use Rattle.model.specs.Layout.{Table, intervalSlots, lane, laneSlots, slotsOf, tableOf, tableSlots}
 use Rattle.model.specs.Stands.{Between, EndsBy, InInterval, InOrder, Named, NoOverlap, SlotsStand, by-fan, by-interval, by-start, ends, starts, unitsOf}
 use Rattle.model.specs.Answers.{ValidShares}
 use Rattle.model.proofs.Sums.{last, one-term, sum-congr}
 use Rattle.model.proofs.Sets.{and-left, and-right}
 use Rattle.model.proofs.Orders.{Fit}
 use Rattle.model.proofs.Intervals.{instants-rise}
 use Rattle.model.proofs.Lists.{All-gather, All-imp, Pairs-gather, Pairs-imp, Pairs-with, sum-before, total-gather}
-use Rattle.demands.proofs.Laid.Lanes.{laid, laid-next, laid-units}
+use Rattle.model.proofs.Laid.Lanes.{laid, laid-next, laid-units}
 use Rattle.model.proofs.Slots.{Runs, open-share, other, runs}
 
 -- what ends by a tick ends before what starts at that tick or later
 ticks : {a b c d : ℕ} {s u : Slot} → Between a b s → Between c d u → b ≤ c → EndsBy s u

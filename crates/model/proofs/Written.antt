@@ -6,24 +6,24 @@ use mathlib.Core.List.{List}
 use Prim.Native.Nat.{ℕ, _+_, _*_, _≤_, _<_}
 use native.Mathlib.Nat.{le-of-mul-le-mul-right, mul-le-mul-right}
 use native.Mathlib.Omega.{arith}
 use Rattle.model.specs.Limits.{mostWeight, week}
 use Rattle.model.specs.Sets.{Doses}
 use Rattle.model.specs.Lists.{also, none}
 use Rattle.model.specs.Orders.{Order}
 use Rattle.model.specs.Classes.{Classes, Setting}
 use Rattle.model.specs.Intervals.{fansPresent, settingOf}
 use Rattle.model.specs.Records.{read}
 use Rattle.model.specs.Plans.{Slot, planOf, planRecords, recordsBytes}
 use Rattle.model.specs.Layout.{classAt, classesOf, slotsOf}
 use Rattle.model.specs.Stands.{Named, SlotsStand, Stands, ends}
 use Rattle.model.specs.Answers.{ValidShares, planBytes}
 use Rattle.model.proofs.Sequence.{few-classes}
 use Rattle.model.proofs.Orders.{Fit}
 use Rattle.model.proofs.Intervals.{instants-week}
 use Rattle.model.proofs.Lists.{All-gather, All-imp}
-use Rattle.demands.proofs.Laid.{laid-stand}
-use Rattle.demands.proofs.Written.Plans.{NarrowClass, NarrowSlot, plan-back}
+use Rattle.model.proofs.Laid.{laid-stand}
+use Rattle.model.proofs.Written.Plans.{NarrowClass, NarrowSlot, plan-back}
 use Rattle.model.proofs.Planner.{W-most, time-most, weight-most}
 
 module _ (o : Order) (fit : Fit o) (p : ℕ) (C : ℕ → Doses) where
   abbrev S : Setting
