@@ -25,13 +25,13 @@ use Rattle.model.proofs.Fractions.{compare≤}
 use Rattle.model.proofs.Sets.{and-both, and-left, and-right, weight-pos}
 use Rattle.model.proofs.Certificate.{Falling}
 use Rattle.model.proofs.Orders.{Fit}
-use Rattle.model.proofs.Lists.{All-of, Pairs-of, length-singles, total-at}
+use Rattle.model.proofs.Lists.{All-of, Pairs-of, gather-at, length-singles, total-at}
 use Rattle.model.proofs.PlanPieces.{noSlot}
 use Rattle.model.proofs.Judging.{certified-classes, certified-stands}
 use Rattle.records.specs.Plan.{classIn, slotIn}
 use Rattle.judge_clauses.specs.Tests.{InTurn, Passes, OrderHeld, HeldFrom, SlotFits, by-fan, by-interval, by-time, placeIn, unitsUpTo}
 use Rattle.measure.specs.Arrays.{setsOf}
-use Rattle.judge.proofs.Rows.{class-row, gather-at, noClass, noRecord, plan-class, plan-length, plan-slot, rows-read, slot-row}
+use Rattle.judge.proofs.Rows.{class-row, noClass, noRecord, plan-class, plan-length, plan-slot, rows-read, slot-row}
 use Rattle.judge_slots.proofs.Places.{ends-apart, turns-all}
 use Rattle.judge.proofs.Held.{instants-up, same-weight, same-size, same-time}
 

@@ -23,14 +23,14 @@ use Rattle.model.proofs.Sets.{Alike, le-weight, on-pos, same-test, weight-alike
 use Rattle.model.proofs.FanTime.{P-alike}
 use Rattle.model.proofs.Sequence.{few-classes, free-alike, one-class, rates-fall}
 use Rattle.model.proofs.Orders.{Fit}
-use Rattle.model.proofs.Lists.{All-at, Pairs-at, length-singles, total-at}
+use Rattle.model.proofs.Lists.{All-at, Pairs-at, gather-at, length-singles, total-at}
 use Rattle.model.proofs.ValidShares.{class-open}
 use Rattle.model.proofs.DrawnLine.{class-of}
 use Rattle.model.proofs.PlanPieces.{noSlot}
 use Rattle.records.specs.Plan.{classIn, slotIn}
 use Rattle.judge_clauses.specs.Tests.{ClassFits, ClassRow, InTurn, Leads, ClassNumbers, Passes, OrderHeld, HeldFrom, SlotFits, SlotLong, SlotRow, by-fan, by-interval, by-time, placeIn, unitsUpTo}
 use Rattle.measure.specs.Arrays.{setsOf}
-use Rattle.judge.proofs.Rows.{gather-at, noClass, plan-class, plan-length, plan-slot, read-rows, row-class, row-slot}
+use Rattle.judge.proofs.Rows.{noClass, plan-class, plan-length, plan-slot, read-rows, row-class, row-slot}
 use Rattle.judge_slots.proofs.Places.{place-at, tick-before, tick-from}
 use Rattle.judge.proofs.Held.{instants-up, same-weight, same-size, same-time}
 use Rattle.judge.proofs.Certified.{in-set}

@@ -1,8 +1,7 @@
 -- Plan bytes record by record: what planRecords reads, by the index of each record.
 use mathlib.Core.Path.{_∙_, _≡_, ap, refl, subst}
 use mathlib.Core.Bool.{Bool, true, false}
-use mathlib.Core.Logic.{inl, inr}
-use mathlib.Core.List.{List, [], _∷_, _++_, map}
+use mathlib.Core.List.{List, [], _∷_, map}
 use Prim.Native.Nat.{ℕ, zero, suc, _+_, _/_, _%_, _<_}
 use native.Mathlib.Nat.{add-zero}
 use native.Mathlib.Omega.{arith}
@@ -11,11 +10,8 @@ use lib.Dec.{eqb, eqb→eq}
 use lib.ListN.{List·getD-append, List·getD-map, getD, length, length-append, length-map}
 use lib.Seq.{getD-append-add}
 use Rattle.model.specs.Records.{recordSize, blankAt, classParts, pick, read, readAll, readFrom, recordAt, refused, slotParts}
-use Rattle.model.specs.Lists.{gather}
 use Rattle.model.specs.Plans.{Class, PlanRecord, Slot, classOf, classRecord, planOf, planRecordOf, planRecords, slotOf, slotRecord}
-use Rattle.model.proofs.Lists.{length-singles}
 use Rattle.model.proofs.Orders.{no-refusal, passed, went-on}
-use Rattle.model.proofs.Sums.{last}
 use Rattle.judge_clauses.specs.Tests.{ClassRow, SlotRow}
 
 -- what stands for a record past the last
@@ -113,15 +109,6 @@ module _ (b : List ℕ) where
       (eqb→eq _ _ (x .0), y .0, λ k l. let z : 0 + k ≡ k = omega arith in rw z at (y .1 k (omega (arith, y .0))))
 
 -- ---- classes, then slots
-
-pub gather-at : {A : Type 0} (n : ℕ) (f : ℕ → A) (d : A) (k : ℕ) → k < n → getD (gather n (λ i. f i ∷ [])) k d ≡ f k
-unfolding gather
-gather-at zero f d k l = absurd (omega arith)
-gather-at (suc n) f d k l = elim (last l) [
-  | inl e ↦ rw e (subst (λ (x : ℕ). getD (gather n (λ i. f i ∷ []) ++ f n ∷ []) x d ≡ f n) (length-singles n f)
-      (rw add-zero at (getD-append-add (gather n (λ i. f i ∷ [])) (f n ∷ []) 0 d)))
-  | inr q ↦ List·getD-append (gather n (λ i. f i ∷ [])) (f n ∷ []) d k (omega (arith, length-singles n f)) ∙ gather-at n f d k q
-]
 
 abbrev pub noClass : Class
 noClass = record { number = 0; doses = 0; weight = 0; time = 0 }

@@ -1,10 +1,12 @@
 -- Laws of lists: gathered lists, totals, what holds of all members and of each two, and members by their place.
 use mathlib.Core.Logic.{inl, inr}
-use mathlib.Core.Path.{_∙_, _≡_, ap, refl}
+use mathlib.Core.Path.{_∙_, _≡_, ap, refl, subst}
 use mathlib.Core.List.{List, [], _∷_, _++_, map, map-append}
 use Prim.Native.Nat.{ℕ, zero, suc, _+_, _*_, _-_, _≤_, _<_}
+use native.Mathlib.Nat.{add-zero}
 use native.Mathlib.Omega.{arith}
-use lib.ListN.{length, getD, length-append}
+use lib.ListN.{List·getD-append, length, getD, length-append}
+use lib.Seq.{getD-append-add}
 use Rattle.model.specs.Sets.{sum}
 use Rattle.model.specs.Lists.{gather, total, All, none, also, Pairs, lone, then}
 use Rattle.model.proofs.Sums.{last}
@@ -113,6 +115,16 @@ module _ {A : Type 0} where
   length-singles n f = length-gather n (λ k. f k ∷ []) ∙ sum-const n 1 ∙ omega arith
 
   -- ---- by place
+
+  -- of a list gathered one by one
+  pub gather-at : (n : ℕ) (f : ℕ → A) (d : A) (k : ℕ) → k < n → getD (gather n (λ i. f i ∷ [])) k d ≡ f k
+  unfolding gather
+  gather-at zero f d k l = absurd (omega arith)
+  gather-at (suc n) f d k l = elim (last l) [
+    | inl e ↦ rw e (subst (λ (x : ℕ). getD (gather n (λ i. f i ∷ []) ++ f n ∷ []) x d ≡ f n) (length-singles n f)
+        (rw add-zero at (getD-append-add (gather n (λ i. f i ∷ [])) (f n ∷ []) 0 d)))
+    | inr q ↦ List·getD-append (gather n (λ i. f i ∷ [])) (f n ∷ []) d k (omega (arith, length-singles n f)) ∙ gather-at n f d k q
+  ]
 
   -- what holds of all holds at each place
   pub All-at : {P : A → Type 0} {l : List A} (d : A) → All P l → (i : ℕ) → i < length l → P (getD l i d)
