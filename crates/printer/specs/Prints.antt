@@ -4,7 +4,6 @@ use mathlib.Core.Bool.{Bool}
 use mathlib.Core.List.{List}
 use Prim.Native.Nat.{ℕ, _≤_}
 use lib.Dec.{eqb}
-use lib.IntN.{ℤ, pos, negsuc}
 use lib.ListN.{length}
 use Rattle.model.specs.Records.{pick}
 use Rattle.model.specs.Answers.{Planned, Plans}
@@ -23,8 +22,3 @@ pub record Prints (order before after text text′ : List ℕ) (planned : Bool) 
   pub put : Put (answerText answer after) text 0 text′ end
   pub inside : end ≤ length text′
   pub told : planned ≡ eqb (answer .answer .number) 0
-
--- 0, 1 or 2
-abbrev pub Exits : ℤ → Type 0
-Exits (pos n) = n ≤ 2
-Exits (negsuc n) = ⊥

@@ -1,18 +1,18 @@
 // "Reads up to 1,601 bytes of order from standard input", plans it and prints the plan or the refusal (document 01, "The plan printer").
 // A Rattle `main` has no exit status, so `printer_main` is exported and linked as the program's main (tests/link).
-use libc::STDIN_FILENO;
 use libc::STDOUT_FILENO;
 use plan::Planned;
+use programs::read_input;
 use steps::limits::PLAN_ROOM;
 ghost use mathlib.Core.Path.{_≡_};
 ghost use Prim.Native.Nat.{_+_, _*_, _≤_};
 ghost use lib.ListN.{length};
 ghost use Rattle.model.specs.Limits.{planRoom};
 ghost use Rattle.model.specs.Records.{recordSize};
-ghost use Rattle.io.specs.Counts.{Counts};
+ghost use Rattle.programs.specs.Exits.{Exits};
 ghost use Rattle.lines.specs.Text.{Put};
 ghost use Rattle.plan.specs.Answered.{asPlanned};
-ghost use Rattle.printer.specs.Prints.{answerText, Exits, Prints};
+ghost use Rattle.printer.specs.Prints.{answerText, Prints};
 
 // Room for every plan: 24 classes and 1,457 slots.
 fn plan_buffer() -> [u8; PLAN_ROOM]
@@ -26,46 +26,6 @@ fn text_buffer() -> [u8; 237120]
     ensures { λ r. ⌜ 237120 ≡ length r ⌝ }
 {
     [0; 237120]
-}
-
-// What reading standard input gave: whether it can be read, and how many bytes came.
-struct Input {
-    readable: bool,
-    bytes: usize,
-}
-
-// One read, of bytes from a place of the buffer on.
-fn read_on(order: &mut [u8], at: usize) -> Input
-    requires { ⌜ at ≤ length (now order) ⌝ }
-    ensures { λ r. ⌜ at + r .bytes ≤ length (now (order .exit)) ⌝ }
-{
-    let got = libc::read(STDIN_FILENO, &mut order[at..]);
-    let bytes = io::count(got, &order[at..]);
-    Input {
-        readable: got >= 0,
-        bytes,
-    }
-}
-
-// Reads until the buffer is full, the input ends or can't be read.
-fn read_input(order: &mut [u8]) -> Input
-    ensures { λ r. ⌜ Counts (r .bytes) (now (order .exit)) ⌝ }
-{
-    let mut at = 0;
-    while at < order.len() {
-        let i = read_on(order, at);
-        if i.bytes == 0 {
-            return Input {
-                readable: i.readable,
-                bytes: at,
-            };
-        }
-        at += i.bytes;
-    }
-    Input {
-        readable: true,
-        bytes: at,
-    }
 }
 
 // The text of a planning's answer, from the text buffer's first byte on. Gives back its length.

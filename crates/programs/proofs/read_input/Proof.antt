@@ -5,8 +5,8 @@ use native.Mathlib.Omega.{arith}
 use borrow.Author.Needs.{needs}
 use lib.ListN.{length}
 use Rattle.io.proofs.Counting.{counts}
-use Rattle.printer.proofs.read_input.Statement.{statement}
-use Rattle.printer.proofs.read_input.Tie as tie
+use Rattle.programs.proofs.read_input.Statement.{statement}
+use Rattle.programs.proofs.read_input.Tie as tie
 
 abbrev Inv-loop : tie.InvT-loop
 Inv-loop order₀ at₀ order at = (length order ≡ length order₀) × (at ≤ length order)
