@@ -7,7 +7,7 @@ use lib.Dec.{T, ltb→lt, lt→ltb}
 use lib.ListN.{getD}
 use Rattle.model.specs.Limits.{mostWeight}
 use Rattle.model.specs.Sets.{Doses}
-use Rattle.model.specs.Classes.{Setting, Row, W, P, free, remaining, setNumber}
+use Rattle.model.specs.Classes.{Setting, W, P, setNumber}
 use Rattle.model.specs.Orders.{Order}
 use Rattle.model.specs.Intervals.{settingOf, fansPresent}
 use Rattle.model.specs.Answers.{FirstClass, aboveTop}
@@ -15,6 +15,8 @@ use Rattle.model.proofs.Sets.{weight-alike}
 use Rattle.model.proofs.FanTime.{P-alike}
 use Rattle.model.proofs.NextClass.{next-unique}
 use Rattle.model.proofs.Orders.{Fit}
+use Rattle.model.proofs.Answers.{first-next, no-doses}
+use Rattle.model.proofs.Answers as model
 use Rattle.model.proofs.Planner.{W-most, time-most}
 use Rattle.steps.proofs.Tests.{not-both}
 use Rattle.classes.specs.declared.Tally.{Tally}
@@ -29,26 +31,20 @@ module _ {o : Order} (fit : Fit o) where
   module _ {t : Tally} (c : ClassesOf o t) where
     -- no class: no dose
     pub no-first : t .class ≡ 0 → (A : Doses) → FirstClass o A → ⊥
-    unfolding remaining
-    no-first e A f = let r = f .some in c .classes .done (r .0) (r .1) (rw e tt)
+    no-first e A f = let r = f .some in omega (arith, r .1, no-doses o (t .class) (classesIn t) (c .classes) e)
 
     module _ (some : 0 < t .class) where
       abbrev C : ℕ → Doses
       C = classesIn t
 
-      no-row : free S (fansPresent o) C 0 ≡ fansPresent o
-      unfolding free
-      no-row = refl
-
       first : FirstClass o (C 0)
-      unfolding free remaining
-      first = c .classes .next 0 some
+      first = first-next o (t .class) C (c .classes) some
 
       pub first-weight : getD (t .weight) 0 0 ≡ W S (C 0)
       first-weight = c .weight 0 some
 
       pub first-time : getD (t .time) 0 0 ≡ P S (fansPresent o) (C 0)
-      first-time = c .time 0 some ∙ ap (λ (row : Row). P S row (C 0)) no-row
+      first-time = c .time 0 some ∙ model.first-time o (t .class) C (c .classes)
 
       pub weight-fit : getD (t .weight) 0 0 ≤ mostWeight
       weight-fit = omega (arith, first-weight, W-most o fit (t .class) C (C 0))

@@ -9,3 +9,4 @@ pub mod Demand3
 pub mod WholeSecond
 pub mod Log
 pub mod TrialBays
+pub mod Season

@@ -4,6 +4,7 @@ use mathlib.Core.Bool.{true}
 use mathlib.Core.Logic.{_≢_, _⊎_, inl, inr}
 use mathlib.Core.List.{List, [], _∷_, _++_, map}
 use Prim.Native.Nat.{ℕ, zero, suc, _+_, _*_, _≤_, _<_, _^_}
+use native.Mathlib.Nat.{eq-zero-or-pos}
 use native.Mathlib.Omega.{arith}
 use borrow.Author.Tests.{ne-eqb}
 use lib.Dec.{T, eqb}
@@ -12,7 +13,7 @@ use Rattle.model.specs.Sets.{Doses}
 use Rattle.model.specs.Records.{pick, refused}
 use Rattle.model.specs.Orders.{Order, doseAt, readOrder}
 use Rattle.model.specs.Lists.{gather}
-use Rattle.model.specs.Classes.{Setting, Row, P, Classes, free, reserved, classP}
+use Rattle.model.specs.Classes.{Setting, Row, P, Classes, free, remaining, reserved, classP}
 use Rattle.model.specs.Plans.{Class, Slot, planOf, recordsBytes}
 use Rattle.model.specs.Layout.{Piece, Lane, cut, line, pieceSlot, laneSlots, lane, intervalSlots, tableSlots, tableOf, slotsOf, classAt, classesOf}
 use Rattle.model.specs.Intervals.{instantAt, settingOf, fansPresent}
@@ -36,6 +37,21 @@ unread-number order number place e = elim (row-number (given-exactly mostBay ord
 -- an order has one reading
 pub one-order : {last : ℕ} {order : List ℕ} {o o′ : Order} → Accepts last order o → Accepts last order o′ → o ≡ o′
 one-order {last} {order} {o} {o′} a b = let e = a .reads in let f = b .reads in cc
+
+-- the first of an order's classes is its first class, with all fans free
+module _ (o : Order) (p : ℕ) (C : ℕ → Doses) (c : Classes (settingOf o) (fansPresent o) p C) where
+  pub first-next : 0 < p → FirstClass o (C 0)
+  unfolding free remaining
+  first-next some = c .next 0 some
+
+  pub first-time : classP (settingOf o) (fansPresent o) C 0 ≡ P (settingOf o) (fansPresent o) (C 0)
+  unfolding free
+  first-time = refl
+
+  -- where there is no class, there is no dose
+  pub no-doses : p ≡ 0 → settingOf o .doses ≡ 0
+  unfolding remaining
+  no-doses e = elim (eq-zero-or-pos (settingOf o .doses)) [ inl z ↦ z | inr l ↦ absurd (c .done 0 l (rw e tt)) ]
 
 -- two first classes are one set, with one number, W and P
 first-one : (o : Order) (A B : Doses) → FirstClass o A → FirstClass o B → tooFast o A ≡ tooFast o B

@@ -33,3 +33,5 @@ pub mod Standing
 pub mod Answers
 pub mod Flows
 pub mod Figures
+pub mod Streams
+pub mod Season

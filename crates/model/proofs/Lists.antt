@@ -1,6 +1,6 @@
 -- Laws of lists: gathered lists, totals, what holds of all members and of each two, and members by their place.
 use mathlib.Core.Logic.{inl, inr}
-use mathlib.Core.Path.{_∙_, _≡_, ap, refl, subst}
+use mathlib.Core.Path.{_∙_, _≡_, ap, ap₂, refl, subst}
 use mathlib.Core.List.{List, [], _∷_, _++_, map, map-append}
 use Prim.Native.Nat.{ℕ, zero, suc, _+_, _*_, _-_, _≤_, _<_}
 use native.Mathlib.Nat.{add-zero}
@@ -8,7 +8,7 @@ use native.Mathlib.Omega.{arith}
 use lib.ListN.{List·getD-append, length, getD, length-append}
 use lib.Seq.{getD-append-add}
 use Rattle.model.specs.Sets.{sum}
-use Rattle.model.specs.Lists.{gather, total, All, none, also, Pairs, lone, then}
+use Rattle.model.specs.Lists.{gather, total, All, none, also, Pairs, lone, then, Each, ended, beside}
 use Rattle.model.proofs.Sums.{last}
 
 -- ---- sums
@@ -180,3 +180,21 @@ module _ {A B : Type 0} (f : A → B) where
   unfolding gather
   map-gather zero g = refl
   map-gather (suc n) g = map-append f (gather n g) (g n) ∙ ap (λ (l : List B). l ++ map f (g n)) (map-gather n g)
+
+-- ---- lists beside each other
+
+module _ {A B : Type 0} {R : A → B → Type 0} where
+  -- of two lists, one behind the other
+  pub Each-append : {l : List A} {m : List B} {l′ : List A} {m′ : List B} → Each R l m → Each R l′ m′ → Each R (l ++ l′) (m ++ m′)
+  Each-append ended h = h
+  Each-append (beside r g) h = beside r (Each-append g h)
+
+  -- where each member has one, there is one list
+  pub Each-one : ((a : A) (x y : B) → R a x → R a y → x ≡ y) → {l : List A} {m m′ : List B} → Each R l m → Each R l m′ → m ≡ m′
+  Each-one one ended ended = refl
+  Each-one one (beside {a = a} {b = x} r g) (beside {b = y} s h) = ap₂ (λ (x : B) (l : List B). x ∷ l) (one a x y r s) (Each-one one g h)
+
+  -- they are as long
+  pub Each-length : {l : List A} {m : List B} → Each R l m → length l ≡ length m
+  Each-length ended = refl
+  Each-length (beside r g) = omega (arith, Each-length g)

@@ -2,7 +2,7 @@
 use mathlib.Core.Path.{_≡_}
 use mathlib.Core.Bool.{false, _||_}
 use mathlib.Core.List.{List, [], _∷_, _++_}
-use Prim.Native.Nat.{ℕ, _+_, _≤_, _<_}
+use Prim.Native.Nat.{ℕ, _+_, _-_, _≤_, _<_}
 use lib.Dec.{eqb}
 use lib.ListN.{length, getD}
 use Rattle.model.specs.Limits.{mostBay, planRoom}
@@ -101,7 +101,7 @@ abbrev pub D : ℕ → ℕ → ℕ → ℕ → List ℕ
 D bay release deadline grams = recordBytes doseParts (doseKind ∷ bay ∷ release ∷ deadline ∷ grams ∷ [])
 
 -- number, doses, W, P
-abbrev pub class : ℕ → ℕ → ℕ → ℕ → Class
+abbrev class : ℕ → ℕ → ℕ → ℕ → Class
 class number doses weight time = record { number = number; doses = doses; weight = weight; time = time }
 
 -- fan, dose, start tick and part, end tick and part, W, P, class
@@ -119,7 +119,7 @@ slot fan dose start part end endpart weight time number = record {
 }
 
 -- dose, tick, amount, state
-abbrev pub drawing : ℕ → ℕ → ℕ → State → Drawing
+abbrev drawing : ℕ → ℕ → ℕ → State → Drawing
 drawing dose tick amount state = record { dose = dose; tick = tick; point = record { amount = amount; state = state } }
 
 -- an order that is refused by its reading
@@ -300,3 +300,7 @@ cases =
     ∷ refusedCase (F 2 1000 1 ++ D 1 0 5 0 ++ D 900 0 5 10) 5 1
     ∷ refusedCase (F 2 1000 1 ++ D 900 0 5 10 ++ 0 ∷ []) 2 0
     ∷ []
+
+-- row n of the table, from 1
+abbrev pub bench : ℕ → Case
+bench n = getD cases (n - 1) (oneFan 1000 1)

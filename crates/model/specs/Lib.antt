@@ -13,7 +13,9 @@ pub mod Line
 pub mod Log
 pub mod FreePlans
 pub mod Answers
+pub mod Season
 pub mod Cases
 pub mod CaseTests
 pub mod TrialCases
 pub mod LogCases
+pub mod SeasonCases

@@ -1,4 +1,4 @@
--- Limits (documents 01 and 02): each number that bounds an order, what is worked out of it, a plan or a log, by its name.
+-- Limits (documents 01 and 02): each number that bounds an order, what is worked out of it, a plan, a log or a stream of orders, by its name.
 use Prim.Native.Nat.{ℕ}
 
 -- ---- orders
@@ -94,3 +94,16 @@ mostFlow = 1024000
 -- "the counter runs from 4,294,967,295 on to 0": after so many pulses it is where it was
 abbrev pub counterTurn : ℕ
 counterTurn = 4294967296
+
+-- ---- streams of orders
+
+-- "a stream of up to 65,536 bytes of orders": in bytes, and in records
+abbrev pub streamRoom : ℕ
+streamRoom = 65536
+
+abbrev pub mostStreamed : ℕ
+mostStreamed = 2048
+
+-- "orders refused by number": where every bay is open, an order's own refusals are 2 to 9, all below this
+abbrev pub orderNumbers : ℕ
+orderNumbers = 10

@@ -21,3 +21,8 @@ pub data All {A : Type 0} (P : A → Type 0) : List A → Type 0 where
 pub data Pairs {A : Type 0} (R : A → A → Type 0) : List A → Type 0 where
   lone : Pairs R []
   then : {a : A} {l : List A} → All (R a) l → Pairs R l → Pairs R (a ∷ l)
+
+-- R holds of every member and the one in its place in the other list, which is as long
+pub data Each {A B : Type 0} (R : A → B → Type 0) : List A → List B → Type 0 where
+  ended : Each R [] []
+  beside : {a : A} {b : B} {l : List A} {m : List B} → R a b → Each R l m → Each R (a ∷ l) (b ∷ m)

@@ -6,7 +6,7 @@ use mathlib.Core.List.{List, [], _∷_, _++_}
 use Prim.Native.Nat.{ℕ, _-_}
 use lib.Dec.{T, eqb, leb, ltb}
 use lib.Ieee.{ofBits}
-use lib.ListN.{length, getD, replicate, take}
+use lib.ListN.{length, replicate, take}
 use Rattle.model.specs.Limits.{mostBay}
 use Rattle.model.specs.Lists.{total}
 use Rattle.model.specs.Records.{Reading, read, refused, pick, numberAt, numberBytes, meterKind, meterParts, fieldsAt, blankAt, recordBytes, readFrom}
@@ -16,7 +16,7 @@ use Rattle.model.specs.Plans.{planRecordOf, planRecords, planRecordBytes
 use Rattle.model.specs.Line.{unitsBefore, timeOf, drawn}
 use Rattle.model.specs.Log.{flowFits, flowParts, valueFits, meterFits, readingOf, loggedOf, risesFrom, rises, readLog, stretchesFrom, stretches, meteringOf, ifMetered, ifKnown, ifUnknown, figuresOf}
 use Rattle.model.specs.Answers.{refusal, done, Laid, notLaid, laidBy, lineOf, Lays}
-use Rattle.model.specs.Cases.{Case, casePlan, cases, oneFan}
+use Rattle.model.specs.Cases.{Case, bench, casePlan, cases}
 use Rattle.model.specs.CaseTests.{allIn, sameAnswer}
 
 -- a row of the bench's table, from 1, so that row 1 is P1, and 12 and 13 are P12's two; a dose of it, the bytes of a log, and what comes back
@@ -28,7 +28,7 @@ pub record LogCase : Type 0 where
 
 -- the order and the plan of the row
 abbrev pub benchCase : LogCase → Case
-benchCase c = getD cases (c .row - 1) (oneFan 1000 1)
+benchCase c = bench (c .row)
 
 -- the claim about a row: this comes back, and nothing else
 pub record LogRight (c : LogCase) : Type 0 where

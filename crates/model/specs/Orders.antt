@@ -129,6 +129,6 @@ orderOf es =
     (refused 6 0)
 
 -- 2 "order length no multiple of 32, or over 1,600", "then record by record 3, 4, 5 in that order" and 15, "then 6, 7, 8"; bays are open up to
--- the last that is: in planning lastOpenBay, in judging, drawing and laying a log mostBay, so that 15 comes in planning only
+-- the last that is: in planning lastOpenBay, in judging, drawing, laying a log and adding up a season mostBay, so that 15 comes in planning only
 unfoldable pub readOrder : ℕ → List ℕ → Reading Order
 readOrder last bytes = pick (eqb (length bytes % recordSize) 0 && leb (length bytes) orderRoom) (andThen (readAll (entryOf last) bytes) orderOf) (refused 2 0)

@@ -32,3 +32,7 @@ pub const LOG_ROOM: usize = 131072;
 pub const GRAM_PARTS: u32 = 1024;
 
 pub const MOST_FLOW: u32 = 1024000;
+
+pub const STREAM_ROOM: usize = 65536;
+
+pub const ORDER_NUMBERS: usize = 10;
