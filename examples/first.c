@@ -1,4 +1,4 @@
-/* A sample order planned, judged and drawn, and a log laid beside it, from C.
+/* A sample order planned, judged and drawn, a log laid beside it, and the order added up, from C.
  *     cc -Iinclude examples/first.c target/staticlib/libknellgable.a -o first && ./first samples/p2.order */
 #include "knellgable.h"
 #include <stdio.h>
@@ -38,5 +38,10 @@ int main(int count, char **words)
     knellgable_laid laid = knellgable_log(order, order_bytes, plan, plan_bytes, 0, log, sizeof log);
     printf("log: answer %u, metered %llu/1024 grams, risen %llu/1024, seconds unknown %u\n", laid.number, (unsigned long long)laid.metered,
         (unsigned long long)laid.risen, laid.unknown);
+
+    /* A stream of this order alone, which begins with its F. */
+    knellgable_added_up season = knellgable_season(order, order_bytes);
+    printf("season: answer %u, %u accepted, %llu grams, %llu fan-seconds, first class %llu/%llu\n", season.number, season.accepted,
+        (unsigned long long)season.grams, (unsigned long long)season.seconds, (unsigned long long)season.weight, (unsigned long long)season.time);
     return 0;
 }

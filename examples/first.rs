@@ -1,4 +1,4 @@
-//! A sample order planned, judged and drawn, and a log laid beside it, from Rust.
+//! A sample order planned, judged and drawn, a log laid beside it, and the order added up, from Rust.
 //!     rustc -L target/staticlib examples/first.rs && ./first samples/p2.order
 
 #[repr(C)]
@@ -45,6 +45,18 @@ struct Laid {
     unknown: u32,
 }
 
+#[repr(C)]
+struct AddedUp {
+    number: u32,
+    place: usize,
+    accepted: u32,
+    refused: [u32; 10],
+    grams: u64,
+    seconds: u64,
+    weight: u64,
+    time: u64,
+}
+
 #[link(name = "knellgable", kind = "static")]
 extern "C" {
     fn knellgable_plan(order: *const u8, order_bytes: usize, plan: *mut u8, plan_bytes: usize) -> Planned;
@@ -60,6 +72,7 @@ extern "C" {
         log: *const u8,
         log_bytes: usize,
     ) -> Laid;
+    fn knellgable_season(stream: *const u8, stream_bytes: usize) -> AddedUp;
 }
 
 /// An order and the plan made for it. Slices are lent for each call only, so every call below is sound for any bytes.
@@ -84,6 +97,11 @@ impl Desk {
     fn log(&self, dose: usize, log: &[u8]) -> Laid {
         let (order, plan) = (&self.order, &self.plan);
         unsafe { knellgable_log(order.as_ptr(), order.len(), plan.as_ptr(), plan.len(), dose, log.as_ptr(), log.len()) }
+    }
+
+    /// A stream of this order alone, which begins with its F.
+    fn season(&self) -> AddedUp {
+        unsafe { knellgable_season(self.order.as_ptr(), self.order.len()) }
     }
 }
 
@@ -121,4 +139,7 @@ fn main() {
     let log = [reading(0, 1, 4_294_967_290), reading(2, 1, 4), reading(3, 0, 0)].concat();
     let Laid { number, metered, risen, unknown, .. } = desk.log(0, &log);
     println!("log: answer {number}, metered {metered}/1024 grams, risen {risen}/1024, seconds unknown {unknown}");
+
+    let AddedUp { number, accepted, grams, seconds, weight, time, .. } = desk.season();
+    println!("season: answer {number}, {accepted} accepted, {grams} grams, {seconds} fan-seconds, first class {weight}/{time}");
 }

@@ -1,7 +1,7 @@
-/* Knellgable: CO2 doses planned, judged, drawn and held against a meter's log, every number proved.
+/* Knellgable: CO2 doses planned, judged, drawn, held against a meter's log and added up over a season, every number proved.
  *
- * The five functions of libknellgable.a. An order is any bytes, and so are a plan and a log: the caller checks nothing beforehand, and every call
- * gets one answer. Each function reads only the bytes it is lent, keeps none of them, allocates nothing and holds no state: calls on different
+ * The six functions of libknellgable.a. An order is any bytes, and so are a plan, a log and a stream: the caller checks nothing beforehand, and every
+ * call gets one answer. Each function reads only the bytes it is lent, keeps none of them, allocates nothing and holds no state: calls on different
  * memory may run at the same time. A call takes under 64 KiB of stack (measured, not proved: docs/BENCHMARKS.md).
  *
  * What the caller answers for: so many bytes as the length says may be read at each pointer, and written at a planning's `plan`; a length of 0
@@ -21,6 +21,9 @@
  * from 4,294,967,295 on to 0; form 2 a mean flow in grams per second, the bits of a 32-bit IEEE 754 float that is a multiple of 1/1024 from 0 to
  * 1,000, minus zero read as zero. A stretch between neighbouring records is known if both have the same form and neither is missing.
  *
+ * A stream is up to 2,048 records of orders that each begin with their F: it is cut at every record whose kind is F, and each of these with the
+ * records behind it, up to the next, is an order of its own. So an order with a D before its F can't stand in a stream.
+ *
  * The number that comes back is 0, or the first of these that holds, in this sequence:
  *    1  plan buffer under 47,392 bytes (planning only)
  *    2  order length no multiple of 32, or over 1,600
@@ -38,6 +41,8 @@
  *   13  log length no multiple of 32, or over 131,072; a record's kind, form, tick or value isn't as above, its bay isn't the dose's, or a byte
  *       that must be zero isn't
  *   14  a tick of the log is not above the one before; only where no record is 13
+ *   16  stream length no multiple of 32, or over 65,536, or its first record isn't an F (a season, which comes back with no other: those of its
+ *       orders are counted)
  * place is the record's index for 3, 4, 5 and 15, that of the first D which overlaps an earlier one for 8, that of the first such record of the log
  * for 13 (0 for its length) and 14, else 0. With 9 come the doses of the first class as a set (bit i for dose i), their weight W, which is
  * their grams together, and their fan time P: they show that no plan exists. Fields not meant are 0.
@@ -58,6 +63,10 @@ extern "C" {
 #define KNELLGABLE_WEEK 604800
 /* The longest log: 4,096 records. */
 #define KNELLGABLE_LOG_ROOM 131072
+/* The longest stream: 2,048 records. */
+#define KNELLGABLE_STREAM_ROOM 65536
+/* Numbers by which an order of a stream may be refused are below this. */
+#define KNELLGABLE_ORDER_NUMBERS 10
 
 /* States of a point. */
 #define KNELLGABLE_FINISHED 0 /* at or past the deadline */
@@ -96,6 +105,15 @@ typedef struct {
     uint32_t unknown; /* seconds of the other stretches */
 } knellgable_laid;
 
+typedef struct {
+    uint32_t number;
+    size_t place;
+    uint32_t accepted;                          /* orders */
+    uint32_t refused[KNELLGABLE_ORDER_NUMBERS]; /* orders, at the number of their refusal: 2, 3, 4, 5, 7, 8 or 9 */
+    uint64_t grams, seconds;                    /* of the accepted orders: of their doses, and of fan time */
+    uint64_t weight, time;                      /* W and P of the greatest first class among them; 0 and 1 if there is none */
+} knellgable_added_up;
+
 /* Plans an order into the lent buffer. 0: the buffer begins with `classes` C records and `slots` S records, and every byte behind them is as
  * it was. The classes are the order's: again and again, among the doses left, the largest set with the greatest grams per second of fan time
  * open to it. The slots deliver each dose exactly and inside its window, no fan and no dose is in two of them at one moment, and the plan
@@ -124,6 +142,14 @@ knellgable_drawn knellgable_advance(const uint8_t *order, size_t order_bytes, co
  * figures add up. */
 knellgable_laid knellgable_log(const uint8_t *order, size_t order_bytes, const uint8_t *plan, size_t plan_bytes, size_t dose, const uint8_t *log,
                                size_t log_bytes);
+
+/* Adds up a stream of orders. Each is read exactly as judging reads it alone, trial bays too: it is accepted, or refused by 2, 3, 4, 5, 7, 8 or 9.
+ * 0: `accepted` and the counts in `refused` come together to the number of F records. The rest is over accepted orders only: the `grams` of their
+ * doses; the `seconds` that the slots of any plans take which stand for them, and these are the P of all their classes; and W and P, unreduced, of
+ * the first class with the greatest rate, by exact products, the earliest of equals. A stream of no bytes has no orders. Where two streams that
+ * begin with F are put together, and that is not too long, counts, grams and seconds add up, and the greater of their greatest first classes is
+ * the greatest, the earlier one if they are equal. Refused: every figure is 0, `time` too. */
+knellgable_added_up knellgable_season(const uint8_t *stream, size_t stream_bytes);
 
 #ifdef __cplusplus
 }

@@ -1,5 +1,5 @@
 /* The library on a processor that is not x86-64. The kit's archive is x86-64's alone, so that a server of that kind, linked with it, is emulated
- * and answers the calls; the other side is the five functions for this processor, which hand each call over by a pair of pipes. One server serves
+ * and answers the calls; the other side is the six functions for this processor, which hand each call over by a pair of pipes. One server serves
  * one thread. The server lends the library what it is sent between canaries, and ends if a byte changes that may not.
  *
  * With -DSERVER it is the server; else it takes EMULATOR and SERVED, the paths of the two programs that are run. */
@@ -14,9 +14,9 @@
 
 #include "knellgable.h"
 
-enum function { PLAN, JUDGE, POINT, ADVANCE, LOG };
+enum function { PLAN, JUDGE, POINT, ADVANCE, LOG, SEASON };
 
-/* What is asked; the bytes of the order, the plan and the log follow. Both processors lay structs out alike. */
+/* What is asked; the bytes of the order, or the stream, the plan and the log follow. Both processors lay structs out alike. */
 typedef struct {
     uint64_t function, order, plan, log, dose;
     uint32_t tick;
@@ -29,6 +29,7 @@ typedef struct {
         knellgable_judged judged;
         knellgable_drawn drawn;
         knellgable_laid laid;
+        knellgable_added_up added_up;
     } is;
     uint32_t tick;
 } answered;
@@ -100,8 +101,10 @@ int main(void) {
             r.is.drawn = knellgable_point(order.lent, a.order, plan.lent, a.plan, a.dose, a.tick);
         else if (a.function == ADVANCE)
             r.is.drawn = knellgable_advance(order.lent, a.order, plan.lent, a.plan, a.dose, &r.tick);
-        else
+        else if (a.function == LOG)
             r.is.laid = knellgable_log(order.lent, a.order, plan.lent, a.plan, a.dose, log.lent, a.log);
+        else
+            r.is.added_up = knellgable_season(order.lent, a.order);
         put(1, &r, sizeof r);
         if (a.function == PLAN)
             put(1, plan.lent, a.plan);
@@ -166,5 +169,9 @@ knellgable_drawn knellgable_advance(const uint8_t *order, size_t order_bytes, co
 knellgable_laid knellgable_log(const uint8_t *order, size_t order_bytes, const uint8_t *plan, size_t plan_bytes, size_t dose, const uint8_t *log,
                                size_t log_bytes) {
     return ask((asked){LOG, order_bytes, plan_bytes, log_bytes, dose, 0}, order, plan, log).is.laid;
+}
+
+knellgable_added_up knellgable_season(const uint8_t *stream, size_t stream_bytes) {
+    return ask((asked){.function = SEASON, .order = stream_bytes}, stream, NULL, NULL).is.added_up;
 }
 #endif

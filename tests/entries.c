@@ -61,6 +61,44 @@ static int laid(struct bytes order, struct bytes plan, size_t dose, uint32_t tic
     return laid.number == points[0].number && laid.place == points[0].place && laid.metered == metered && laid.risen == risen && laid.unknown == 0;
 }
 
+static uint32_t number_at(const uint8_t *at)
+{
+    return at[0] | at[1] << 8 | at[2] << 16 | (uint32_t)at[3] << 24;
+}
+
+/* Any bytes as a stream: refused with no figures, or every F of it counted. */
+static int counted(struct bytes stream)
+{
+    knellgable_added_up season = knellgable_season(stream.at, stream.count);
+    int fits = stream.count % 32 == 0 && stream.count <= KNELLGABLE_STREAM_ROOM && (stream.count == 0 || stream.at[0] == 0x46);
+    uint32_t begun = 0, orders = season.accepted;
+    for (size_t at = 0; at < stream.count; at += 32)
+        begun += stream.at[at] == 0x46;
+    for (int i = 0; i < KNELLGABLE_ORDER_NUMBERS; i++)
+        orders += season.refused[i];
+    return season.number == (fits ? 0 : 16) && season.place == 0 && orders == (fits ? begun : 0) && (fits || season.time == 0);
+}
+
+/* An accepted order with its F put first, twice in a stream: twice the grams and fan time of its plan's classes, and the first of them. */
+static int added_up(struct bytes order, struct bytes plan)
+{
+    struct bytes stream = {malloc(2 * order.count), 2 * order.count};
+    uint64_t grams = 0, seconds = 0, weight = plan.count > 0 ? number_at(plan.at + 4) : 0, time = plan.count > 0 ? number_at(plan.at + 8) : 1;
+    for (size_t at = 0, next = 32; at < order.count; at += 32) {
+        size_t to = order.at[at] == 0x46 ? 0 : next;
+        memcpy(stream.at + to, order.at + at, 32);
+        next += to > 0 ? 32 : 0;
+    }
+    memcpy(stream.at + order.count, stream.at, order.count);
+    for (size_t at = 0; at < plan.count && plan.at[at] == 0x43; at += 32) {
+        grams += number_at(plan.at + at + 4);
+        seconds += number_at(plan.at + at + 8);
+    }
+    knellgable_added_up season = knellgable_season(stream.at, stream.count);
+    free(stream.at);
+    return season.accepted == 2 && season.grams == 2 * grams && season.seconds == 2 * seconds && season.weight == weight && season.time == time;
+}
+
 /* Judged, drawn, walked and laid: one refusal for all, or a point that the pen comes to as well. */
 static int asked(struct bytes order, struct bytes plan, size_t dose)
 {
@@ -89,8 +127,8 @@ int main(int count, char **words)
     size_t dose = strtoul(words[3], NULL, 10);
     knellgable_planned planned = knellgable_plan(order.at, order.count, own.at, KNELLGABLE_PLAN_ROOM);
     own.count = 32 * (planned.classes + planned.slots);
-    int wrong = planned.number == 0 && knellgable_judge(order.at, order.count, own.at, own.count).number != 0;
-    wrong |= asked(order, own, dose) | asked(order, given, dose);
+    int wrong = planned.number == 0 && (knellgable_judge(order.at, order.count, own.at, own.count).number != 0 || !added_up(order, own));
+    wrong |= asked(order, own, dose) | asked(order, given, dose) | !counted(order) | !counted(given);
     free(order.at);
     free(given.at);
     free(own.at);

@@ -1,6 +1,8 @@
-/* Lengths of 0 with null pointers, of an order, of a plan and of a log. Exits 1 at the first answer that is not the header's. */
+/* Lengths of 0 with null pointers, of an order, of a plan, of a log and of a stream, and the longest stream. Exits 1 at the first answer that is not
+ * the header's. */
 #include "knellgable.h"
 #include <stdio.h>
+#include <string.h>
 
 static int wrong(const char *what, uint32_t number)
 {
@@ -12,7 +14,7 @@ int main(void)
 {
     static const uint8_t fans[32] = {0x46, 1, [4] = 1, [8] = 1};
     static const uint8_t dose[64] = {0x46, 1, [4] = 1, [8] = 1, [32] = 0x44, [34] = 1, [40] = 1, [44] = 1};
-    static uint8_t room[KNELLGABLE_PLAN_ROOM];
+    static uint8_t room[KNELLGABLE_PLAN_ROOM], stream[KNELLGABLE_STREAM_ROOM + sizeof fans];
     uint32_t number, tick = 7;
     if ((number = knellgable_plan(NULL, 0, room, sizeof room).number) != 6)
         return wrong("planning no bytes", number);
@@ -37,5 +39,15 @@ int main(void)
     knellgable_planned planned = knellgable_plan(dose, sizeof dose, room, sizeof room);
     if ((number = knellgable_log(dose, sizeof dose, room, 32 * (planned.classes + planned.slots), 0, NULL, 0).number) != 0)
         return wrong("a log of no bytes", number);
+    knellgable_added_up season = knellgable_season(NULL, 0);
+    if (season.number != 0 || season.accepted != 0 || season.weight != 0 || season.time != 1)
+        return wrong("a season of no bytes", season.number);
+    for (size_t at = 0; at < sizeof stream; at += sizeof fans)
+        memcpy(stream + at, fans, sizeof fans);
+    season = knellgable_season(stream, KNELLGABLE_STREAM_ROOM);
+    if (season.number != 0 || season.accepted != KNELLGABLE_STREAM_ROOM / sizeof fans)
+        return wrong("the longest season", season.number);
+    if ((number = knellgable_season(stream, sizeof stream).number) != 16)
+        return wrong("a season too long by a record", number);
     return 0;
 }

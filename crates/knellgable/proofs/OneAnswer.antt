@@ -5,12 +5,16 @@ use mathlib.Core.List.{List}
 use Prim.Native.Nat.{ℕ}
 use Rattle.model.specs.Answers.{Answer, Judges, Lays, Pen}
 use Rattle.model.specs.Answers as answers
+use Rattle.model.specs.Season.{AddsUp}
+use Rattle.model.specs.Season as season
 use Rattle.model.proofs.Answers.{draws-one, judges-one, lays-one, moves-one}
+use Rattle.model.proofs.Season.{adds-up-one}
 use Rattle.knellgable.specs.declared.Planned.{Planned}
 use Rattle.knellgable.specs.declared.Judged.{Judged}
 use Rattle.knellgable.specs.declared.Drawn.{Drawn}
 use Rattle.knellgable.specs.declared.Laid.{Laid}
-use Rattle.knellgable.specs.Exported.{DrawnNumbers, DrawsNumbers, MovesNumbers, asJudged, asLaid, asPlanned, stateNumber, stateFan}
+use Rattle.knellgable.specs.declared.AddedUp.{AddedUp}
+use Rattle.knellgable.specs.Exported.{DrawnNumbers, DrawsNumbers, MovesNumbers, asAddedUp, asJudged, asLaid, asPlanned, stateNumber, stateFan}
 
 -- ---- planning and judging
 
@@ -89,3 +93,20 @@ heldLaid l = record {
 
 pub logs-once : {order plan : List ℕ} {dose : ℕ} {log : List ℕ} (r s : Laid) → Lays order plan dose log (asLaid r) → Lays order plan dose log (asLaid s) → r ≡ s
 logs-once r s a b = ap heldLaid (lays-one a b)
+
+-- ---- seasons
+
+abbrev heldAddedUp : season.AddedUp → AddedUp
+heldAddedUp a = record {
+  number = a .answer .number;
+  place = a .answer .place;
+  accepted = a .season .accepted;
+  refused = a .season .refused;
+  grams = a .season .grams;
+  seconds = a .season .seconds;
+  weight = a .season .greatest .weight;
+  time = a .season .greatest .time;
+}
+
+pub seasons-once : {stream : List ℕ} (r s : AddedUp) → AddsUp stream (asAddedUp r) → AddsUp stream (asAddedUp s) → r ≡ s
+seasons-once r s a b = ap heldAddedUp (adds-up-one a b)

@@ -3,13 +3,15 @@ use mathlib.Core.Path.{_≡_}
 use mathlib.Core.List.{List}
 use Prim.Native.Nat.{ℕ}
 use Rattle.model.specs.Line.{State, finished, shut, idle, dosing}
-use Rattle.model.specs.Answers.{Answer, Draws, Moves}
+use Rattle.model.specs.Answers.{Answer, refusal, Draws, Moves}
 use Rattle.model.specs.Answers as answers
+use Rattle.model.specs.Season as season
 use Rattle.draw.specs.Drawing.{answerOf, penAt}
 use Rattle.knellgable.specs.declared.Planned.{Planned}
 use Rattle.knellgable.specs.declared.Judged.{Judged}
 use Rattle.knellgable.specs.declared.Drawn.{Drawn}
 use Rattle.knellgable.specs.declared.Laid.{Laid}
+use Rattle.knellgable.specs.declared.AddedUp.{AddedUp}
 
 abbrev pub asPlanned : Planned → answers.Planned
 asPlanned r = record { answer = answerOf (r .number) (r .place) (r .set) (r .weight) (r .time); classes = r .classes; slots = r .slots }
@@ -21,6 +23,12 @@ abbrev pub asLaid : Laid → answers.Laid
 asLaid r = record {
   answer = answerOf (r .number) (r .place) (r .set) (r .weight) (r .time);
   figures = record { metered = r .metered; risen = r .risen; unknown = r .unknown };
+}
+
+abbrev pub asAddedUp : AddedUp → season.AddedUp
+asAddedUp r = record {
+  answer = refusal (r .number) (r .place);
+  season = record { accepted = r .accepted; refused = r .refused; grams = r .grams; seconds = r .seconds; greatest = record { weight = r .weight; time = r .time } };
 }
 
 -- ---- points

@@ -1,11 +1,13 @@
-// The five entry points for C and Rust: numbers and byte slices only. Each hands on what the proved function answers; include/knellgable.h
+// The six entry points for C and Rust: numbers and byte slices only. Each hands on what the proved function answers; include/knellgable.h
 // says the promises in words.
 ghost use mathlib.Core.Path.{_≡_};
 ghost use Rattle.model.specs.Answers.{Plans, Judges, Lays};
+ghost use Rattle.model.specs.Season.{AddsUp};
 ghost use Rattle.judge.specs.Verdict.{asAnswer};
 ghost use Rattle.draw.specs.Drawing.{answerOf, asState, asDrawn};
-ghost use Rattle.knellgable.specs.Exported.{asPlanned, asJudged, asLaid, stateNumber, stateFan, DrawnNumbers, DrawsNumbers, MovesNumbers};
+ghost use Rattle.knellgable.specs.Exported.{asPlanned, asJudged, asLaid, asAddedUp, stateNumber, stateFan, DrawnNumbers, DrawsNumbers, MovesNumbers};
 use draw::State;
+use steps::limits::ORDER_NUMBERS;
 
 // What planning answers: "Fields not meant are 0".
 #[repr(C)]
@@ -53,6 +55,20 @@ pub struct Laid {
     pub metered: u64,
     pub risen: u64,
     pub unknown: u32,
+}
+
+// What adding up a stream answers: 0 or 16 and its place; orders accepted, orders refused by number, grams, fan-seconds, and the greatest first class's
+// W and P.
+#[repr(C)]
+pub struct AddedUp {
+    pub number: u32,
+    pub place: usize,
+    pub accepted: u32,
+    pub refused: [u32; ORDER_NUMBERS],
+    pub grams: u64,
+    pub seconds: u64,
+    pub weight: u64,
+    pub time: u64,
 }
 
 // An order planned into a lent buffer.
@@ -184,5 +200,24 @@ pub extern "C" fn knellgable_log(order: &[u8], plan: &[u8], dose: usize, log: &[
         metered: l.metered,
         risen: l.risen,
         unknown: l.unknown,
+    }
+}
+
+// A stream of orders added up.
+#[no_mangle]
+pub extern "C" fn knellgable_season(stream: &[u8]) -> AddedUp
+    ensures { λ r. ⌜ AddsUp (now (stream .entry)) (asAddedUp r) ⌝ }
+{
+    let a = season::add_up(stream);
+    let refused = a.refused;
+    AddedUp {
+        number: a.number,
+        place: a.place,
+        accepted: a.accepted,
+        refused,
+        grams: a.grams,
+        seconds: a.seconds,
+        weight: a.weight as u64,
+        time: a.time as u64,
     }
 }

@@ -10,8 +10,9 @@ use borrow.Author.Tests.{le-ltb, lt-ltb}
 use lib.Dec.{ltb}
 use lib.ListN.{length, getD, set, take, length-append}
 use lib.Seq.{length-take-le, take-all, take-suc}
+use Rattle.model.specs.Lists.{gather}
 use Rattle.records.proofs.Laws.{join, length-written, written-none, written-one}
-use Rattle.lines.specs.Text.{Put, decimal, digitZero, numberText, numbersText}
+use Rattle.lines.specs.Text.{Put, bareText, decimal, digitZero, numberText, numbersText, restText}
 
 -- the promise leaves no choice
 pub put-same : {text b b₁ b₂ : List ℕ} {at e₁ e₂ : ℕ} → Put text b at b₁ e₁ → Put text b at b₂ e₂ → (b₁ ≡ b₂) × (e₁ ≡ e₂)
@@ -79,10 +80,14 @@ numbers-length [] = omega arith
 numbers-length (v ∷ vs) =
     omega (arith, length-append (numberText v) (numbersText vs), decimal-length 20 v, numbers-length vs)
 
--- behind a word and its numbers there is room for the newline
-pub newline-room : {word b b′ b″ : List ℕ} {at behind e : ℕ} (vs : List ℕ) → Put word b at b′ behind → Put (numbersText vs) b′ behind b″ e
-    → at + length word + 21 * length vs + 1 ≤ length b → e < length b″
-newline-room vs p q h = omega (arith, p .next, q .next, put-length p, put-length q, numbers-length vs)
+-- behind numbers there is room for the newline
+pub newline-room : {b b′ : List ℕ} {at e : ℕ} (vs : List ℕ) → Put (numbersText vs) b at b′ e → at + 21 * length vs + 1 ≤ length b → e < length b′
+newline-room vs p h = omega (arith, p .next, put-length p, numbers-length vs)
+
+-- a line of bare numbers: at most 20 digits and, for each other number, 21 bytes
+pub bare-length : (v : ℕ) (vs : List ℕ) → length (bareText v vs) ≤ 20 + 21 * length vs + 1
+bare-length v vs =
+    omega (arith, length-append (decimal 20 v) (restText vs), length-append (numbersText vs) (10 ∷ []), decimal-length 20 v, numbers-length vs)
 
 module _ (vs b₀ : List ℕ) (at : ℕ) where
   pub numbers-none : Put (numbersText (take 0 vs)) b₀ at b₀ at
@@ -108,3 +113,26 @@ module _ (vs b₀ : List ℕ) (at : ℕ) where
 
   pub word-all : {b : List ℕ} (i : ℕ) → i ≤ length vs → length vs ≤ i → Put (take i vs) b₀ at b (at + i) → Put vs b₀ at b (at + i)
   word-all i g h p = rw (take-all i vs h) at p
+
+-- ---- lines in a row
+
+module _ (line : ℕ → List ℕ) where
+  pub lines-none : (b : List ℕ) (at : ℕ) → Put (gather 0 line) b at b at
+  unfolding gather
+  lines-none = put-none
+
+  pub lines-more : {b₀ b b′ : List ℕ} {at next next′ : ℕ} (i : ℕ) → Put (gather i line) b₀ at b next → Put (line i) b next b′ next′
+      → Put (gather (i + 1) line) b₀ at b′ next′
+  unfolding gather
+  lines-more i h g = rw add-one (put-more h g)
+
+  -- of at most m bytes each
+  module _ (m : ℕ) (short : (k : ℕ) → length (line k) ≤ m) where
+    pub lines-length : (i : ℕ) → length (gather i line) ≤ m * i
+    unfolding gather
+    lines-length zero = omega arith
+    lines-length (suc i) = omega (arith, length-append (gather i line) (line i), short i, lines-length i)
+
+    -- where the next line begins
+    pub lines-end : {b₀ b : List ℕ} {at next : ℕ} (i : ℕ) → Put (gather i line) b₀ at b next → next ≤ at + m * i
+    lines-end i h = omega (arith, h .next, lines-length i)

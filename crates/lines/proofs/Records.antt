@@ -2,18 +2,16 @@
 use mathlib.Core.Path.{_≡_}
 use mathlib.Core.Bool.{Bool, true, false}
 use mathlib.Core.List.{List, [], _∷_, _++_}
-use Prim.Native.Nat.{ℕ, zero, suc, _+_, _*_, _-_, _≤_}
+use Prim.Native.Nat.{ℕ, _+_, _*_, _≤_}
 use native.Mathlib.Omega.{arith}
-use native.Mathlib.Numerals.{add-one}
 use borrow.Author.Tests.{eq-eqb, ne-eqb}
 use lib.Dec.{eqb}
 use lib.ListN.{length, getD, length-append}
-use Rattle.model.specs.Lists.{gather}
 use Rattle.model.specs.Records.{pick, classKind, recordAt}
 use Rattle.model.specs.Plans.{Class, Slot, classOf, slotOf}
 use Rattle.records.specs.Plan.{kindAt, classIn, slotIn}
 use Rattle.lines.specs.Text.{Put, lineText, numbersText, classText, slotText, totalText, refusedText, recordText, recordsText, planText}
-use Rattle.lines.proofs.Puts.{numbers-length, put-none, put-more}
+use Rattle.lines.proofs.Puts.{lines-end, lines-length, numbers-length}
 
 -- ---- lengths
 
@@ -69,29 +67,9 @@ module _ {b b′ : List ℕ} {at e : ℕ} where
 
 -- ---- records in a row
 
-module _ (plan b₀ : List ℕ) where
-  -- the line of record k
-  abbrev lineOf : ℕ → List ℕ
-  lineOf k = recordText (recordAt plan k)
-
-  pub records-none : Put (gather 0 lineOf) b₀ 0 b₀ 0
-  unfolding gather
-  records-none = put-none b₀ 0
-
-  pub records-more : {b b′ : List ℕ} {at at′ : ℕ} (i : ℕ) → Put (gather i lineOf) b₀ 0 b at → Put (lineOf i) b at b′ at′
-      → Put (gather (i + 1) lineOf) b₀ 0 b′ at′
-  unfolding gather
-  records-more i h g = rw add-one (put-more h g)
-
-  records-length : (i : ℕ) → length (gather i lineOf) ≤ 160 * i
-  unfolding gather
-  records-length zero = omega arith
-  records-length (suc i) =
-      omega (arith, length-append (gather i lineOf) (lineOf i), record-length (recordAt plan i), records-length i)
-
-  -- where the next line begins
-  pub records-end : {b : List ℕ} {at : ℕ} (i : ℕ) → Put (gather i lineOf) b₀ 0 b at → at ≤ 160 * i
-  records-end i h = omega (arith, h .next, records-length i)
+-- where the line behind the first i records begins
+pub records-end : (plan : List ℕ) {b b′ : List ℕ} {at : ℕ} (i : ℕ) → Put (recordsText plan i) b 0 b′ at → at ≤ 160 * i
+records-end plan i h = omega (arith, lines-end (λ k. recordText (recordAt plan k)) 160 (λ k. record-length (recordAt plan k)) i h)
 
 -- ---- whole texts
 
@@ -102,7 +80,7 @@ plan-text-length plan classes slots =
     omega (
       arith,
       length-append (recordsText plan (classes + slots)) (totalText classes slots),
-      records-length plan [] (classes + slots),
+      lines-length (λ k. recordText (recordAt plan k)) 160 (λ k. record-length (recordAt plan k)) (classes + slots),
       line-length (116 ∷ 111 ∷ 116 ∷ 97 ∷ 108 ∷ []) (classes ∷ slots ∷ []),
     )
 

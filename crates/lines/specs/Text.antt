@@ -1,10 +1,11 @@
--- The printer's text, byte by byte (document 01, "The plan printer").
+-- The printers' texts, byte by byte (document 01, "The plan printer"; document 02, C-15).
 use mathlib.Core.Path.{_≡_}
 use mathlib.Core.List.{List, [], _∷_, _++_}
 use Prim.Native.Nat.{ℕ, zero, suc, _+_, _*_, _-_, _/_, _%_}
 use lib.Dec.{eqb, ltb}
 use lib.ListN.{length, getD}
 use Rattle.records.specs.Written.{written}
+use Rattle.model.specs.Limits.{orderNumbers}
 use Rattle.model.specs.Lists.{gather}
 use Rattle.model.specs.Records.{pick, classKind, recordAt}
 use Rattle.model.specs.Plans.{Class, Slot, PlanRecord, classRecord, slotRecord, classOf, slotOf}
@@ -36,9 +37,17 @@ unfoldable pub numbersText : List ℕ → List ℕ
 numbersText [] = []
 numbersText (v ∷ vs) = numberText v ++ numbersText vs
 
+-- numbers, each behind a space, and the end of the line
+abbrev pub restText : List ℕ → List ℕ
+restText vs = numbersText vs ++ (10 ∷ [])
+
 -- a word, its numbers and the end of the line
 abbrev pub lineText : List ℕ → List ℕ → List ℕ
-lineText word vs = word ++ (numbersText vs ++ (10 ∷ []))
+lineText word vs = word ++ restText vs
+
+-- a line of bare numbers
+abbrev pub bareText : ℕ → List ℕ → List ℕ
+bareText v vs = decimal 20 v ++ restText vs
 
 -- "`class` number, doses, W, P"
 unfoldable pub classText : Class → List ℕ
@@ -83,6 +92,24 @@ saidText (slotRecord s) = slotText s
 unfoldable pub saidLines : List PlanRecord → List ℕ
 saidLines [] = []
 saidLines (r ∷ rs) = saidText r ++ saidLines rs
+
+-- ---- a season (document 02, C-15): "one figure a line in this order"
+
+-- "a line of number and count for each refusal met"
+unfoldable pub metText : ℕ → ℕ → List ℕ
+metText number count = pick (eqb count 0) [] (bareText number (count ∷ []))
+
+-- "rising"; the count of number n stands at n
+abbrev pub refusalsText : List ℕ → List ℕ
+refusalsText counts = gather orderNumbers (λ n. metText n (getD counts n 0))
+
+-- "grams, fan-seconds, then W and P on one line"
+unfoldable pub totalsText : ℕ → ℕ → ℕ → ℕ → List ℕ
+totalsText grams seconds weight time = bareText grams [] ++ (bareText seconds [] ++ bareText weight (time ∷ []))
+
+-- "accepted", the refusals met, and these
+unfoldable pub seasonText : ℕ → List ℕ → ℕ → ℕ → ℕ → ℕ → List ℕ
+seasonText accepted counts grams seconds weight time = bareText accepted [] ++ (refusalsText counts ++ totalsText grams seconds weight time)
 
 -- ---- a text in a buffer
 

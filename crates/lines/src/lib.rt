@@ -1,15 +1,17 @@
-// The printer's text, written into a lent buffer (document 01, "The plan printer").
+// The printers' texts, written into a lent buffer (document 01, "The plan printer"; document 02, C-15).
 use records::CLASS_KIND;
 use records::Class;
 use records::Slot;
 use records::class_at;
 use records::kind_at;
 use records::slot_at;
+use steps::limits::ORDER_NUMBERS;
 ghost use Prim.Native.Nat.{_+_, _*_, _/_, _<_, _≤_};
 ghost use lib.ListN.{length};
+ghost use Rattle.model.specs.Limits.{orderNumbers};
 ghost use Rattle.model.specs.Records.{recordAt, recordSize};
 ghost use Rattle.records.specs.Held.{asClass, asSlot};
-ghost use Rattle.lines.specs.Text.{decimal, numberText, numbersText, lineText, classText, slotText, totalText, refusedText, recordText, recordsText, planText, Put};
+ghost use Rattle.lines.specs.Text.{decimal, numberText, numbersText, restText, lineText, bareText, classText, slotText, totalText, refusedText, recordText, recordsText, planText, metText, refusalsText, totalsText, seasonText, Put};
 
 // Writes a number in decimal, in at most so many places. Gives back the place behind it.
 fn put_decimal(b: &mut [u8], at: usize, v: u64, places: usize) -> usize
@@ -64,15 +66,32 @@ fn put_word(b: &mut [u8], at: usize, word: &[u8]) -> usize
     at + i
 }
 
+// Writes the rest of a line: numbers, each behind a space, and a newline.
+fn put_rest(b: &mut [u8], at: usize, numbers: &[u64]) -> usize
+    requires { ⌜ at + 21 * length (now numbers) + 1 ≤ length (now b) ⌝ }
+    ensures { λ r. ⌜ Put (restText (now (numbers .entry))) (now (b .entry)) at (now (b .exit)) r ⌝ }
+{
+    let end = put_numbers(b, at, numbers);
+    b[end] = 10;
+    end + 1
+}
+
 // Writes a line: a word, its numbers, a newline.
 fn put_line(b: &mut [u8], at: usize, word: &[u8], numbers: &[u64]) -> usize
     requires { ⌜ at + length (now word) + 21 * length (now numbers) + 1 ≤ length (now b) ⌝ }
     ensures { λ r. ⌜ Put (lineText (now (word .entry)) (now (numbers .entry))) (now (b .entry)) at (now (b .exit)) r ⌝ }
 {
     let behind = put_word(b, at, word);
-    let end = put_numbers(b, behind, numbers);
-    b[end] = 10;
-    end + 1
+    put_rest(b, behind, numbers)
+}
+
+// Writes a line of bare numbers: the first, and the others behind a space each.
+fn put_bare_line(b: &mut [u8], at: usize, first: u64, others: &[u64]) -> usize
+    requires { ⌜ at + 20 + 21 * length (now others) + 1 ≤ length (now b) ⌝ }
+    ensures { λ r. ⌜ Put (bareText first (now (others .entry))) (now (b .entry)) at (now (b .exit)) r ⌝ }
+{
+    let behind = put_decimal(b, at, first, 20);
+    put_rest(b, behind, others)
 }
 
 // "`class` number, doses, W, P"
@@ -167,4 +186,61 @@ pub fn print_refusal(
     }
     let two = [number, place];
     put_line(out, 0, b"refused", &two)
+}
+
+// "a line of number and count for each refusal met"
+fn put_met(b: &mut [u8], at: usize, number: usize, count: u32) -> usize
+    requires { ⌜ at + 42 ≤ length (now b) ⌝ }
+    ensures { λ r. ⌜ Put (metText number count) (now (b .entry)) at (now (b .exit)) r ⌝ }
+{
+    if count == 0 {
+        return at;
+    }
+    let counted = [count as u64];
+    put_bare_line(b, at, number as u64, &counted)
+}
+
+// These lines, the numbers rising.
+fn put_refusals(b: &mut [u8], at: usize, refused: [u32; ORDER_NUMBERS]) -> usize
+    requires { ⌜ at + 42 * orderNumbers ≤ length (now b) ⌝ }
+    ensures { λ r. ⌜ Put (refusalsText refused) (now (b .entry)) at (now (b .exit)) r ⌝ }
+{
+    let mut next = at;
+    let mut n = 0;
+    while n < ORDER_NUMBERS {
+        next = put_met(b, next, n, refused[n]);
+        n += 1;
+    }
+    next
+}
+
+// "grams, fan-seconds, then W and P on one line"
+fn put_totals(b: &mut [u8], at: usize, grams: u64, seconds: u64, weight: u32, time: u32) -> usize
+    requires { ⌜ at + 126 ≤ length (now b) ⌝ }
+    ensures { λ r. ⌜ Put (totalsText grams seconds weight time) (now (b .entry)) at (now (b .exit)) r ⌝ }
+{
+    let none: [u64; 0] = [];
+    let behind = put_bare_line(b, at, grams, &none);
+    let next = put_bare_line(b, behind, seconds, &none);
+    let p = [time as u64];
+    put_bare_line(b, next, weight as u64, &p)
+}
+
+// The text of a season's figures, one figure a line, from the buffer's first byte on. Gives back its length.
+pub fn print_season(
+    accepted: u32,
+    refused: [u32; ORDER_NUMBERS],
+    grams: u64,
+    seconds: u64,
+    weight: u32,
+    time: u32,
+    out: &mut [u8],
+) -> usize
+    requires { ⌜ 42 * (orderNumbers + 4) ≤ length (now out) ⌝ }
+    ensures { λ r. ⌜ Put (seasonText accepted refused grams seconds weight time) (now (out .entry)) 0 (now (out .exit)) r ⌝ }
+{
+    let none: [u64; 0] = [];
+    let first = put_bare_line(out, 0, accepted as u64, &none);
+    let next = put_refusals(out, first, refused);
+    put_totals(out, next, grams, seconds, weight, time)
 }

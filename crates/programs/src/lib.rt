@@ -11,12 +11,12 @@ pub struct Input {
 }
 
 // One read, of bytes from a place of the buffer on.
-fn read_on(order: &mut [u8], at: usize) -> Input
-    requires { ⌜ at ≤ length (now order) ⌝ }
-    ensures { λ r. ⌜ at + r .bytes ≤ length (now (order .exit)) ⌝ }
+fn read_on(buffer: &mut [u8], at: usize) -> Input
+    requires { ⌜ at ≤ length (now buffer) ⌝ }
+    ensures { λ r. ⌜ at + r .bytes ≤ length (now (buffer .exit)) ⌝ }
 {
-    let got = libc::read(STDIN_FILENO, &mut order[at..]);
-    let bytes = io::count(got, &order[at..]);
+    let got = libc::read(STDIN_FILENO, &mut buffer[at..]);
+    let bytes = io::count(got, &buffer[at..]);
     Input {
         readable: got >= 0,
         bytes,
@@ -24,12 +24,12 @@ fn read_on(order: &mut [u8], at: usize) -> Input
 }
 
 // Reads until the buffer is full, the input ends or can't be read.
-pub fn read_input(order: &mut [u8]) -> Input
-    ensures { λ r. ⌜ Counts (r .bytes) (now (order .exit)) ⌝ }
+pub fn read_input(buffer: &mut [u8]) -> Input
+    ensures { λ r. ⌜ Counts (r .bytes) (now (buffer .exit)) ⌝ }
 {
     let mut at = 0;
-    while at < order.len() {
-        let i = read_on(order, at);
+    while at < buffer.len() {
+        let i = read_on(buffer, at);
         if i.bytes == 0 {
             return Input {
                 readable: i.readable,

@@ -17,7 +17,7 @@ put-total-requires : tie.Need-put-total-requires
 put-total-requires c κs =
     let put = c .before .before .before in
     let A = put .before .before .before .before .args in
-    omega (arith, records-end (A .plan .now) _ _ (put .put-records .ensures), put-length (put .put-records .ensures))
+    omega (arith, records-end (A .plan .now) _ (put .put-records .ensures), put-length (put .put-records .ensures))
 
 same-length : tie.Need-same-length
 same-length c = search needs

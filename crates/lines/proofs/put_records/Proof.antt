@@ -3,8 +3,8 @@ use Prim.Native.Nat.{_≤_, _-_}
 use mathlib.Core.Path.{_≡_, refl}
 use native.Mathlib.Omega.{arith}
 use lib.ListN.{length}
-use Rattle.lines.proofs.Puts.{put-length}
-use Rattle.lines.proofs.Records.{records-none, records-more, records-end}
+use Rattle.lines.proofs.Puts.{lines-more, lines-none, put-length}
+use Rattle.lines.proofs.Records.{records-end}
 use borrow.Author.Needs.{needs}
 use Rattle.model.specs.Lists.{gather}
 use Rattle.model.specs.Records.{recordAt}
@@ -19,13 +19,13 @@ abbrev μ-loop : tie.MeasureT-loop
 μ-loop b₀ plan n at₀ i₀ b at i = n - i
 
 loop-holds : tie.Need-loop-holds Inv-loop μ-loop
-loop-holds c = (omega arith, refl, records-none (c .before .before .args .plan .now) _)
+loop-holds c = (omega arith, refl, lines-none (λ k. recordText (recordAt (c .before .before .args .plan .now) k)) _ 0)
 
 put-record-requires : tie.Need-put-record-requires Inv-loop μ-loop
 put-record-requires c κs =
     let loop = c .before .before in
     let A = loop .before .before .before .args in
-    (omega arith, omega (arith, records-end (A .plan .now) _ _ (loop .loop .inv .2)))
+    (omega arith, omega (arith, records-end (A .plan .now) _ (loop .loop .inv .2)))
 
 add-i : tie.Need-add-i Inv-loop μ-loop
 add-i c = search needs
@@ -38,7 +38,7 @@ loop-again c =
     let put = c .before .before in
     let loop = put .before .before .before in
     let A = loop .before .before .before .args in
-    (omega arith, omega (arith, put-length (put .put-record .ensures)), records-more (A .plan .now) _ _ (loop .loop .inv .2) (put .put-record .ensures))
+    (omega arith, omega (arith, put-length (put .put-record .ensures)), lines-more (λ k. recordText (recordAt (A .plan .now) k)) _ (loop .loop .inv .2) (put .put-record .ensures))
 
 same-length : tie.Need-same-length Inv-loop μ-loop
 same-length c = search needs

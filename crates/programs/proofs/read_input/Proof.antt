@@ -9,10 +9,10 @@ use Rattle.programs.proofs.read_input.Statement.{statement}
 use Rattle.programs.proofs.read_input.Tie as tie
 
 abbrev Inv-loop : tie.InvT-loop
-Inv-loop order₀ at₀ order at = (length order ≡ length order₀) × (at ≤ length order)
+Inv-loop buffer₀ at₀ buffer at = (length buffer ≡ length buffer₀) × (at ≤ length buffer)
 
 abbrev μ-loop : tie.MeasureT-loop
-μ-loop order₀ at₀ order at = length order - at
+μ-loop buffer₀ at₀ buffer at = length buffer - at
 
 loop-holds : tie.Need-loop-holds Inv-loop μ-loop
 loop-holds c = (refl, omega arith)

@@ -1,0 +1,5 @@
+pub mod Begins
+pub mod OneMore
+pub mod Orders
+pub mod Adding
+pub mod Once
