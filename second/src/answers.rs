@@ -1,13 +1,14 @@
-//! The second program's own five entry points, and its own plan for an order.
+//! The second program's own six entry points, and its own plan for an order.
 
 use crate::classes::{self, Class};
 use crate::intervals::Intervals;
 use crate::layout::{plan_bytes, wrap, Slot};
-use crate::library::{Drawn, Judged, Laid, Peer, Planned, DOSING, FINISHED, IDLE, SHUT};
+use crate::library::{Drawn, Judged, Laid, Peer, Planned, Season, DOSING, FINISHED, IDLE, SHUT};
 use crate::line::{point, Point, State};
 use crate::log;
 use crate::orders::{read, Order, TrialBays, RECORD, WEEK};
 use crate::random::Random;
+use crate::season;
 use crate::shares::{shares, Shares};
 use crate::stands::stands;
 
@@ -143,7 +144,7 @@ pub fn drawn(p: Point) -> Drawn {
     Drawn { amount: p.amount, state, fan, ..Drawn::default() }
 }
 
-/// The second program itself, behind the same five entry points.
+/// The second program itself, behind the same six entry points.
 pub struct Own(Finder);
 
 /// Classes over all subsets where there are few doses; classes by flows always.
@@ -194,5 +195,9 @@ impl Peer for Own {
 
     fn log(&self, order: &[u8], plan: &[u8], dose: usize, log: &[u8]) -> Laid {
         self.ask(order, plan, not_laid, |house, slots| house.lay(slots, dose, log))
+    }
+
+    fn season(&self, stream: &[u8]) -> Season {
+        season::of(stream, |order| accept_by(order, TrialBays::Open, self.0))
     }
 }

@@ -1,10 +1,11 @@
-//! Measuring: times of the five entry points, chains and stacks.
+//! Measuring: times of the six entry points, chains and stacks.
 
 use crate::answers::{accept, PLAN_BUFFER};
-use crate::library::{stack_use, Drawn, Judged, Laid, Peer, Planned};
+use crate::library::{stack_use, Drawn, Judged, Laid, Peer, Planned, Season};
 use crate::log::{flow_bits, meter_record, COUNTER, FLOW, LONGEST_LOG};
-use crate::orders::{read, write, Order, TrialBays, RECORD, WEEK};
+use crate::orders::{read, write, Order, TrialBays, MOST_DOSES, RECORD, WEEK};
 use crate::random::Random;
+use crate::season::LONGEST_STREAM;
 use crate::styles;
 use std::hint::black_box;
 use std::time::Instant;
@@ -18,7 +19,13 @@ pub const TIMED: usize = 15;
 pub const ENTRIES: [&str; 5] = ["plan", "judge", "point", "pen step", "judge, a plan that falls"];
 
 /// What is looked at for its stack.
-pub const STACKED: [&str; 5] = ["plan", "judge", "point", "pen step", "log"];
+pub const STACKED: [&str; 6] = ["plan", "judge", "point", "pen step", "log", "season"];
+
+/// Stack use of each of them, in bytes.
+pub type Stacks = [usize; STACKED.len()];
+
+/// Orders of 24 doses that a stream holds: 81.
+pub const FULL_STREAM: usize = LONGEST_STREAM / RECORD / (MOST_DOSES + 1);
 
 /// Keeps an answer from being left out.
 fn spend<T>(answer: T) {
@@ -115,6 +122,19 @@ pub fn logs(peers: &[&dyn Peer], orders: &[Vec<u8>]) -> Vec<Vec<[f64; 2]>> {
     rows
 }
 
+/// Microseconds of the sheet of a full stream of these orders, and of planning them one by one, for each peer. Where there are fewer orders,
+/// they come again.
+pub fn seasons(peers: &[&dyn Peer], orders: &[Vec<u8>]) -> Vec<[f64; 2]> {
+    let orders: Vec<&[u8]> = orders.iter().map(Vec::as_slice).cycle().take(FULL_STREAM).collect();
+    let stream = orders.concat();
+    let mut buffer = vec![0; PLAN_BUFFER];
+    let times = |peer: &&dyn Peer| {
+        let adding = time(|| spend(peer.season(black_box(&stream))));
+        [adding, time(|| orders.iter().for_each(|order| spend(peer.plan(black_box(order), &mut buffer))))]
+    };
+    peers.iter().map(times).collect()
+}
+
 /// Accepted orders of exactly `n` doses.
 pub fn random_orders(n: usize, style: usize, count: usize, r: &mut Random) -> Vec<Vec<u8>> {
     let all = std::iter::repeat_with(|| write(&styles::exactly(n, style, r), 0));
@@ -165,10 +185,15 @@ impl Peer for Nobody {
         black_box((order, plan, dose, log));
         Laid::default()
     }
+
+    fn season(&self, stream: &[u8]) -> Season {
+        black_box(stream);
+        Season::default()
+    }
 }
 
-/// Stack use of the five entry points with one plan and the longest log of dose 0.
-fn stacks_with(peer: &dyn Peer, order: &[u8], plan: &[u8], log: &[u8]) -> [usize; 5] {
+/// Stack use of the six entry points with one plan, the longest log of dose 0 and a stream.
+fn stacks_with(peer: &dyn Peer, order: &[u8], plan: &[u8], log: &[u8], stream: &[u8]) -> Stacks {
     let mut buffer = vec![0; PLAN_BUFFER];
     [
         stack_use(|| spend(peer.plan(order, &mut buffer))),
@@ -176,20 +201,23 @@ fn stacks_with(peer: &dyn Peer, order: &[u8], plan: &[u8], log: &[u8]) -> [usize
         stack_use(|| spend(peer.point(order, plan, 0, 1))),
         stack_use(|| spend(peer.advance(order, plan, 0, &mut 1))),
         stack_use(|| spend(peer.log(order, plan, 0, log))),
+        stack_use(|| spend(peer.season(stream))),
     ]
 }
 
-/// Deepest stack use of the five entry points over some orders, in bytes, with a plan that stands and with one that falls.
-pub fn stacks(peer: &dyn Peer, orders: &[Vec<u8>]) -> [usize; 5] {
-    let own = stacks_with(&Nobody, &[], &[], &[]);
+/// Deepest stack use of the six entry points over some orders, with a plan that stands and with one that falls. The stream is the order twice,
+/// each time from its F on.
+pub fn stacks(peer: &dyn Peer, orders: &[Vec<u8>]) -> Stacks {
+    let own = stacks_with(&Nobody, &[], &[], &[], &[]);
     let mut deepest = own;
-    for order in orders {
-        let plan = plan_of(peer, order);
-        let log = full_log(&read(order, TrialBays::Closed).expect("an order to measure"), 0);
+    for bytes in orders {
+        let plan = plan_of(peer, bytes);
+        let order = read(bytes, TrialBays::Closed).expect("an order to measure");
+        let (log, stream) = (full_log(&order, 0), write(&order, 0).repeat(2));
         for plan in [&plan[..], &plan[..plan.len().saturating_sub(RECORD)]] {
-            let used = stacks_with(peer, order, plan, &log);
+            let used = stacks_with(peer, bytes, plan, &log, &stream);
             deepest.iter_mut().zip(used).for_each(|(most, used)| *most = used.max(*most));
         }
     }
-    [0, 1, 2, 3, 4].map(|i| deepest[i] - own[i])
+    std::array::from_fn(|i| deepest[i] - own[i])
 }

@@ -2,11 +2,11 @@
 
 use crate::answers::{not_drawn, not_laid, planned, PLAN_BUFFER};
 use crate::guard;
-use crate::library::{Drawn, Judged, Laid, Peer, Planned};
+use crate::library::{Drawn, Judged, Laid, Peer, Planned, Season};
 use crate::meter::RAGGED;
 use crate::orders::RECORD;
 use crate::random::Random;
-use crate::{cases, closing, drawing, feeding, laying, refusals, verdicts};
+use crate::{adding, cases, closing, drawing, feeding, laying, refusals, verdicts};
 use std::fmt::Debug;
 
 pub struct Checks<'a> {
@@ -84,7 +84,13 @@ impl Checks<'_> {
         self.same(name, answer, wanted);
     }
 
-    /// An order that all five entry points refuse alike, whatever the plan bytes, dose, tick and log.
+    pub fn season(&mut self, name: &str, stream: &[u8], wanted: Season) {
+        let lent = guard::season(self.peer, stream, &mut self.r);
+        let answer = self.got(name, lent).unwrap_or_default();
+        self.same(name, answer, wanted);
+    }
+
+    /// An order that planning, judging, drawing, the pen and laying refuse alike, whatever the plan bytes, dose, tick and log.
     pub fn refused(&mut self, name: &str, order: &[u8], wanted: Judged) {
         self.plan(name, order, PLAN_BUFFER, planned(wanted));
         self.refused_with_a_plan(name, order, wanted);
@@ -105,7 +111,7 @@ impl Checks<'_> {
 /// A name, and the checks behind it.
 type Group = (&'static str, fn(&mut Checks));
 
-const GROUPS: [Group; 19] = [
+const GROUPS: [Group; 23] = [
     ("planning: P1 to P12", cases::proved),
     ("planning: the run line", cases::run_line),
     ("refusals: 1 to 9, each alone", refusals::alone),
@@ -125,6 +131,10 @@ const GROUPS: [Group; 19] = [
     ("trial bays: their edges and 15's place", closing::edges),
     ("trial bays: with other faults", closing::faults),
     ("trial bays: old orders judged, drawn and laid", closing::old),
+    ("season: the figures of C-15", adding::figures),
+    ("season: 16, and what is none", adding::refused),
+    ("season: where a stream is cut", adding::cuts),
+    ("season: the greatest first class", adding::greatest),
 ];
 
 /// Runs every group; true if no check failed.

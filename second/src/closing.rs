@@ -18,7 +18,7 @@ const BETWEEN: u32 = FIRST_TRIAL_BAY + 50;
 const STORED: [&[u8]; 2] = [include_bytes!("../../samples/old.order"), include_bytes!("../../samples/old.plan")];
 
 /// The doses of an order in these bays.
-fn in_bays(mut o: Order, bays: &[u32]) -> Order {
+pub fn in_bays(mut o: Order, bays: &[u32]) -> Order {
     o.doses.iter_mut().zip(bays).for_each(|(d, &bay)| d.bay = bay);
     o
 }

@@ -1,4 +1,4 @@
-//! One case: a peer's five entry points held against the second program's own.
+//! One case: a peer's six entry points held against the second program's own.
 
 use crate::answers::{accept, drawn, not_drawn, not_laid, planned, refusal, refused, House, PLAN_BUFFER};
 use crate::demand3::sentences;
@@ -8,14 +8,16 @@ use crate::measure::Measure;
 use crate::orders::{put, TrialBays, FIRST_TRIAL_BAY, RECORD, WEEK};
 use crate::random::Random;
 use crate::tally::Tally;
-use crate::{alone, cases, guard, log, meter, near, seconds, stretches, trial, variants};
+use crate::{alone, cases, guard, log, meter, near, season_case, seconds, stretches, sums, trial, variants};
 
 /// A case in which the two differ, with the bytes that show it.
+#[derive(Default)]
 pub struct Difference {
     pub what: String,
     pub order: Vec<u8>,
     pub plan: Vec<u8>,
     pub log: Vec<u8>,
+    pub stream: Vec<u8>,
 }
 
 /// Slots of a damaged plan that still stands around whose edges points are asked for.
@@ -41,7 +43,7 @@ impl Case<'_> {
     }
 
     fn differ_with<T>(&self, what: String, plan: &[u8], log: &[u8]) -> Result<T, Difference> {
-        Err(Difference { what, order: self.order.clone(), plan: plan.to_vec(), log: log.to_vec() })
+        Err(Difference { what, order: self.order.clone(), plan: plan.to_vec(), log: log.to_vec(), stream: Vec::new() })
     }
 
     /// What came back of a lent call, or the byte that changed as a difference.
@@ -215,14 +217,17 @@ impl Case<'_> {
         self.lay(house, slots, plan, dose, &bytes)
     }
 
-    /// A plan that must stand: judged, drawn, also around the edges of so many slots, demand 3 and C-12 held against it, and logs laid
-    /// beside it.
+    /// A plan that must stand: judged, drawn, also around the edges of so many slots, demand 3, C-12 and C-15's fan-seconds held against it,
+    /// and logs laid beside it.
     fn standing(&mut self, house: &House, plan: &[u8], most: usize) -> Result<(), Difference> {
         let Some(slots) = self.judge(house, plan)? else {
             return self.differ("a plan that should stand does not".into(), plan);
         };
         if let Err(what) = sentences(house, &slots, self.measure.moments, self.r) {
             return self.differ(format!("demand 3: {what}"), plan);
+        }
+        if let Err(what) = sums::fan_time(house, &slots) {
+            return self.differ(format!("C-15: {what}"), plan);
         }
         self.edges(house, &slots, plan, most)?;
         self.draw(house, &slots, plan)?;
@@ -349,13 +354,15 @@ pub fn order_of(number: u64, r: &mut Random) -> Vec<u8> {
     cases::fixed().into_iter().nth(number as usize).unwrap_or_else(|| near::bytes(r))
 }
 
-/// Runs one case of a seed. The first also takes lengths of logs, and every length of order, with and without a trial bay.
+/// Runs one case of a seed. The first also takes lengths of streams and of logs, and every length of order, with and without a trial bay.
 pub fn case(peer: &dyn Peer, seed: u64, number: u64, measure: Measure, tally: &mut Tally) -> Result<(), Difference> {
     let mut r = Random::of_case(seed, number);
     let order = order_of(number, &mut r);
     let mut case = Case { peer, order, measure, r: &mut r, tally };
     case.run()?;
+    season_case::run(peer, &case.order, measure, case.r, case.tally)?;
     if number == 0 {
+        season_case::lengths(peer, case.r, case.tally)?;
         case.log_lengths()?;
         let mut long = near::long(case.r);
         case.lengths(&long)?;

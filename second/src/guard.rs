@@ -1,6 +1,6 @@
 //! Lent buffers with canaries on both sides, and a peer's entry points asked with such buffers.
 
-use crate::library::{Drawn, Laid, Peer, Planned};
+use crate::library::{Drawn, Laid, Peer, Planned, Season};
 use crate::orders::RECORD;
 use crate::random::Random;
 
@@ -90,6 +90,16 @@ pub fn log(peer: &dyn Peer, order: &[u8], plan: &[u8], dose: usize, log: &[u8], 
     let answer = lend(order, plan, r, |order, plan| peer.log(order, plan, dose, log.bytes()))?;
     if !log.untouched() {
         return Err("bytes of a lent log changed".into());
+    }
+    Ok(answer)
+}
+
+/// Lends a stream.
+pub fn season(peer: &dyn Peer, stream: &[u8], r: &mut Random) -> Result<Season, String> {
+    let stream = Lent::new(stream, r);
+    let answer = peer.season(stream.bytes());
+    if !stream.untouched() {
+        return Err("bytes of a lent stream changed".into());
     }
     Ok(answer)
 }

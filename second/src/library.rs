@@ -51,7 +51,21 @@ pub struct Laid {
     pub unknown: u32,
 }
 
-/// The five entry points, whoever answers them.
+/// A season's sheet: orders accepted, orders refused by number, and of the accepted ones the grams, the fan-seconds, and W and P of the greatest
+/// first class.
+#[derive(Clone, Copy, Debug, Default, PartialEq, Eq)]
+pub struct Season {
+    pub number: u32,
+    pub place: u32,
+    pub accepted: u32,
+    pub refused: [u32; 10],
+    pub grams: u64,
+    pub seconds: u64,
+    pub weight: u64,
+    pub time: u64,
+}
+
+/// The six entry points, whoever answers them.
 pub trait Peer: Sync {
     fn name(&self) -> &'static str;
     fn plan(&self, order: &[u8], plan: &mut [u8]) -> Planned;
@@ -59,11 +73,12 @@ pub trait Peer: Sync {
     fn point(&self, order: &[u8], plan: &[u8], dose: usize, tick: u32) -> Drawn;
     fn advance(&self, order: &[u8], plan: &[u8], dose: usize, tick: &mut u32) -> Drawn;
     fn log(&self, order: &[u8], plan: &[u8], dose: usize, log: &[u8]) -> Laid;
+    fn season(&self, stream: &[u8]) -> Season;
 }
 
 #[cfg(feature = "library")]
 mod linked {
-    use super::{Drawn, Judged, Laid, Peer, Planned};
+    use super::{Drawn, Judged, Laid, Peer, Planned, Season};
 
     /// The answers as they cross the boundary: the library counts and places in wider numbers.
     #[repr(C)]
@@ -110,6 +125,18 @@ mod linked {
         unknown: u32,
     }
 
+    #[repr(C)]
+    struct WideSeason {
+        number: u32,
+        place: usize,
+        accepted: u32,
+        refused: [u32; 10],
+        grams: u64,
+        seconds: u64,
+        weight: u64,
+        time: u64,
+    }
+
     #[link(name = "knellgable", kind = "static")]
     extern "C" {
         fn knellgable_plan(order: *const u8, order_len: usize, plan: *mut u8, plan_len: usize) -> WidePlanned;
@@ -132,6 +159,7 @@ mod linked {
             log: *const u8,
             log_len: usize,
         ) -> WideLaid;
+        fn knellgable_season(stream: *const u8, stream_len: usize) -> WideSeason;
     }
 
     /// No right answer is wider than 32 bits; a wider one stops the case it came in.
@@ -177,6 +205,12 @@ mod linked {
             let w = unsafe { knellgable_log(order.as_ptr(), order.len(), plan.as_ptr(), plan.len(), dose, log.as_ptr(), log.len()) };
             let (place, set, weight, time) = (narrow(w.place), narrow(w.set), narrow(w.weight), narrow(w.time));
             Laid { number: w.number, place, set, weight, time, metered: w.metered, risen: w.risen, unknown: w.unknown }
+        }
+
+        fn season(&self, stream: &[u8]) -> Season {
+            let w = unsafe { knellgable_season(stream.as_ptr(), stream.len()) };
+            let (accepted, refused, grams, seconds) = (w.accepted, w.refused, w.grams, w.seconds);
+            Season { number: w.number, place: narrow(w.place), accepted, refused, grams, seconds, weight: w.weight, time: w.time }
         }
     }
 }

@@ -1,7 +1,8 @@
-//! An independent second program: orders, classes, plans, verdicts and lines by document 01.
+//! An independent second program: orders, classes, plans, verdicts and lines by document 01, logs and seasons by document 02.
 
 #![deny(unsafe_code)]
 
+mod adding;
 mod alone;
 mod answers;
 mod bench;
@@ -39,14 +40,20 @@ mod random;
 mod refusals;
 mod runs;
 mod samples;
+mod season;
+mod season_case;
+#[cfg(feature = "errors")]
+mod season_slips;
 mod seconds;
 mod selftest;
 mod shares;
 #[cfg(feature = "errors")]
 mod slips;
 mod stands;
+mod streams;
 mod stretches;
 mod styles;
+mod sums;
 mod tally;
 mod trial;
 #[cfg(feature = "errors")]
@@ -63,6 +70,7 @@ const USE: &str = "use: second self [cases] [seed]
      second case FILE [PLAN FILE [DOSE LOG FILE]]
      second plan FILE
      second classes FILE
+     second season FILE
      second bench [orders] [FILE]
      second make-samples DIR
      second make-cases DIR [cases] [seed]";
@@ -117,6 +125,10 @@ fn main() -> ExitCode {
         }
         Some("classes") => {
             print!("{}", printer::classes(&file(&args, 1)));
+            true
+        }
+        Some("season") => {
+            print!("{}", printer::season(&file(&args, 1)));
             true
         }
         Some("bench") => page::run(number(&args, 1, 100) as usize, args.get(2).map(String::as_str)),

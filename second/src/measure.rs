@@ -12,9 +12,11 @@ pub struct Measure {
     pub slots: usize,
     pub moments: u32,
     pub logs: usize,
+    /// Streams by chance.
+    pub streams: usize,
 }
 
 /// Four plans in five have no more than 64 slots. All edges of every longer one would take a run several times as long: a point judges the
 /// whole plan.
-pub const USUAL: Measure = Measure { every: true, bytes: 64, records: 20, points: 24, slots: 64, moments: 40, logs: 16 };
-pub const LITTLE: Measure = Measure { every: false, bytes: 6, records: 4, points: 4, slots: 1, moments: 2, logs: 2 };
+pub const USUAL: Measure = Measure { every: true, bytes: 64, records: 20, points: 24, slots: 64, moments: 40, logs: 16, streams: 4 };
+pub const LITTLE: Measure = Measure { every: false, bytes: 6, records: 4, points: 4, slots: 1, moments: 2, logs: 2, streams: 1 };

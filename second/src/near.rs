@@ -106,7 +106,8 @@ fn same_bay(bytes: &mut Vec<u8>, at: usize, r: &mut Random) {
     insert(bytes, &dose_record(&d), r);
 }
 
-fn spoil(bytes: &mut Vec<u8>, r: &mut Random) {
+/// Bytes of orders spoilt in one place; now and then they are right all the same.
+pub fn spoil(bytes: &mut Vec<u8>, r: &mut Random) {
     let whole = bytes.len() / RECORD;
     let some = if whole == 0 { None } else { Some(r.below(whole as u64) as usize * RECORD) };
     let (doses, fans) = (records(bytes, b'D'), records(bytes, b'F'));

@@ -1,7 +1,8 @@
 //! The page of benchmarks, written whole by one command from the project's root.
 
 use crate::answers::OWN_FLOW;
-use crate::bench::{chains, hard_orders, logs, measure, median, random_orders, stacks, Times, ENTRIES, STACKED, TIMED};
+use crate::bench::{chains, hard_orders, logs, measure, median, random_orders, seasons, stacks};
+use crate::bench::{Stacks, Times, ENTRIES, FULL_STREAM, STACKED, TIMED};
 use crate::glpk;
 use crate::library::Peer;
 use crate::machine::{processor, today};
@@ -33,7 +34,7 @@ const SIDES: &[&dyn Peer] = &[&OWN_FLOW];
 
 /// An aim of the project, set before it was first measured, and what was measured of it.
 struct Figure {
-    aim: &'static str,
+    aim: String,
     measured: String,
     reached: bool,
 }
@@ -108,13 +109,28 @@ fn log_table(text: &mut String, r: &mut Random) -> [f64; 2] {
     most
 }
 
+/// The times of a full stream, and of planning its orders one by one; the answer is the library's greatest part of the one in the other.
+fn season_table(text: &mut String, r: &mut Random) -> f64 {
+    head(text, &["orders", "asked"], &[]);
+    let mut most: f64 = 0.0;
+    for (kind, orders) in kinds(24, FULL_STREAM, r) {
+        let sides = seasons(SIDES, &orders);
+        for (i, entry) in ["season", "plan, one by one"].iter().enumerate() {
+            let cells: Vec<String> = sides.iter().map(|times| format!("{:.1}", times[i] / 1_000.0)).collect();
+            writeln!(text, "| {kind} | {entry} | {} |", cells.join(" | ")).unwrap();
+        }
+        most = most.max(sides[0][0] / sides[0][1]);
+    }
+    most
+}
+
 /// The greatest stacks of each side; the answer is the library's. Spread orders lead to the longest chains.
-fn stack_table(text: &mut String, r: &mut Random) -> [usize; 5] {
+fn stack_table(text: &mut String, r: &mut Random) -> Stacks {
     let mut orders: Vec<Vec<u8>> = kinds(24, STACK_ORDERS, r).into_iter().flat_map(|(_, orders)| orders).collect();
     let valid = std::iter::repeat_with(|| near::bytes(r)).filter(|bytes| read(bytes, TrialBays::Closed).is_ok());
     orders.extend(valid.take(STACK_ORDERS));
-    writeln!(text, "| side | {} |\n|---|---|---|---|---|---|", STACKED.join(" | ")).unwrap();
-    let all: Vec<[usize; 5]> = SIDES.iter().map(|side| stacks(*side, &orders)).collect();
+    writeln!(text, "| side | {} |\n|---|{}", STACKED.join(" | "), "---|".repeat(STACKED.len())).unwrap();
+    let all: Vec<Stacks> = SIDES.iter().map(|side| stacks(*side, &orders)).collect();
     for (side, used) in SIDES.iter().zip(&all) {
         let cells: Vec<String> = used.iter().map(usize::to_string).collect();
         writeln!(text, "| {} | {} |", side.name(), cells.join(" | ")).unwrap();
@@ -123,41 +139,48 @@ fn stack_table(text: &mut String, r: &mut Random) -> [usize; 5] {
 }
 
 /// The aims, from the library's times at 24 doses and its stacks.
-fn figures(kinds: &[Vec<Times>], [log, judge]: [f64; 2], used: [usize; 5]) -> Vec<Figure> {
+fn figures(kinds: &[Vec<Times>], [log, judge]: [f64; 2], season: f64, used: Stacks) -> Vec<Figure> {
     let [library, second] = &kinds[0][..] else { return Vec::new() };
     let plan = library.entries[0];
     let (beside, part, fallen) = (plan / second.entries[0], library.entries[1] / plan, library.entries[4] / plan);
     let mut list = vec![
         Figure {
-            aim: "planning random orders of 24 doses: at most 1.5 times the second program's flow",
+            aim: "planning random orders of 24 doses: at most 1.5 times the second program's flow".into(),
             measured: format!("{beside:.2} times"),
             reached: beside <= 1.5,
         },
         Figure {
-            aim: "judging a plan that stands: at most a quarter of planning",
+            aim: "judging a plan that stands: at most a quarter of planning".into(),
             measured: format!("{part:.3}, where it falls {fallen:.2}"),
             reached: part <= 0.25,
         },
-        Figure { aim: "judging a plan that stands, better: a tenth of planning", measured: format!("{part:.3}"), reached: part <= 0.1 },
         Figure {
-            aim: "a point: at most 20 microseconds beyond judging the same bytes",
+            aim: "judging a plan that stands, better: a tenth of planning".into(),
+            measured: format!("{part:.3}"),
+            reached: part <= 0.1,
+        },
+        Figure {
+            aim: "a point: at most 20 microseconds beyond judging the same bytes".into(),
             measured: format!("{:.1} beyond, {:.1} in all", library.beyond, library.entries[2]),
             reached: library.beyond <= 20.0,
         },
         Figure {
-            aim: "a log of 4,096 records over a plan of 24 doses: at most 25 milliseconds",
+            aim: "a log of 4,096 records over a plan of 24 doses: at most 25 milliseconds".into(),
             measured: format!("{:.1}, of which judging {:.2}", log / 1_000.0, judge / 1_000.0),
             reached: log <= 25_000.0,
         },
+        Figure {
+            aim: "a season of 81 orders of 24 doses: at most 1.2 times planning them one by one".into(),
+            measured: format!("{season:.2} times"),
+            reached: season <= 1.2,
+        },
     ];
-    let aims = [
-        "plan: under 64 KiB of stack",
-        "judge: under 64 KiB of stack",
-        "point: under 64 KiB of stack",
-        "pen step: under 64 KiB of stack",
-        "log: under 64 KiB of stack",
-    ];
-    list.extend(aims.into_iter().zip(used).map(|(aim, used)| Figure { aim, measured: format!("{used} bytes"), reached: used < STACK }));
+    let stack = |(entry, used): (&str, usize)| Figure {
+        aim: format!("{entry}: under 64 KiB of stack"),
+        measured: format!("{used} bytes"),
+        reached: used < STACK,
+    };
+    list.extend(STACKED.into_iter().zip(used).map(stack));
     list
 }
 
@@ -211,16 +234,23 @@ which laying does once. LOGGED random and spread orders of 24 doses and the hard
 
 ";
 
+const SEASONS: &str = "
+The sheet of a stream of ORDERS orders of 24 doses, 64,800 bytes, and planning the same orders one by one: both in milliseconds, each the median \
+of its timed runs. The hard sample comes ORDERS times.
+
+";
+
 const STACKS: &str = "
 The deepest use in bytes: the stack is painted, the call made, and the paint looked at, less what a call takes that answers at once. Over STACKED \
 random and spread orders of 24 doses, the hard sample, and as many orders of every style; judging, drawing and laying with the planner's plan \
-and with one that lacks its last record, for which the classes are computed. The log is the one above, of dose 0.
+and with one that lacks its last record, for which the classes are computed. The log is the one above, of dose 0; the stream of a season is the \
+order twice.
 
 ";
 
 const AIMS: &str = "
-The aims are the project's own, set before the first page was measured, those of the log before it was built; documents 01 and 02 name no \
-figure. Reading the bytes is taken as judging them: a point checks 2 to 10 first, by its definition. Where a plan falls, judging computes the \
+The aims are the project's own, set before the first page was measured, those of the log and the season before they were built; documents 01 \
+and 02 name no figure. Reading the bytes is taken as judging them: a point checks 2 to 10 first, by its definition. Where a plan falls, judging computes the \
 classes, to tell 9 from 10. How each aim is read, and what another reading would miss, stands in `docs/DECISIONS.md`.
 
 ";
@@ -240,12 +270,15 @@ fn page(count: usize) -> String {
     text += "\n## Laying a log\n";
     text += &LOGS.replace("LOGGED", &LOG_ORDERS.to_string());
     let laid = log_table(&mut text, &mut r.clone());
+    text += "\n## Adding up a season\n";
+    text += &SEASONS.replace("ORDERS", &FULL_STREAM.to_string());
+    let added = season_table(&mut text, &mut r.clone());
     text += "\n## Stack\n";
     text += &STACKS.replace("STACKED", &STACK_ORDERS.to_string());
     let used = stack_table(&mut text, &mut r);
     text += "\n## Aims and measurements\n";
     text += AIMS;
-    aims(&mut text, &figures(&last, laid, used));
+    aims(&mut text, &figures(&last, laid, added, used));
     watched(&mut text, &last);
     text += "\n## Random cases\n\nThe last lines of `second compare` and of `tests/sanitized`, kept in `second/long-run.txt`:\n\n";
     match std::fs::read_to_string(LONG_RUNS) {

@@ -1,15 +1,13 @@
-//! What the plan printer says of an order, and what the second program thinks of it.
+//! What the plan printer says of an order and the season's program of a stream, and what the second program thinks of an order.
 
-use crate::answers::{accept, House};
+use crate::answers::{accept, House, OWN};
 use crate::layout::Slot;
-use crate::library::Judged;
+use crate::library::{Judged, Peer};
 use crate::line::State;
 use crate::log::{self, PER_GRAM};
-use crate::orders::TrialBays;
+use crate::orders::{TrialBays, LONGEST_ORDER};
+use crate::season::LONGEST_STREAM;
 use std::fmt::Write;
-
-/// At most 1,601 bytes are read.
-const READ: usize = 1_601;
 
 fn refusal(j: &Judged) -> String {
     match j.number {
@@ -19,7 +17,8 @@ fn refusal(j: &Judged) -> String {
 }
 
 pub fn plan(order: &[u8]) -> String {
-    match accept(&order[..order.len().min(READ)], TrialBays::Closed) {
+    // One byte more than an order may have is read, so that a longer one is seen.
+    match accept(&order[..order.len().min(LONGEST_ORDER + 1)], TrialBays::Closed) {
         Err(j) => refusal(&j),
         Ok(house) => lines(&house, &house.slots(None)),
     }
@@ -37,6 +36,18 @@ pub fn lines(house: &House, slots: &[Slot]) -> String {
     }
     writeln!(text, "total {} {}", house.classes.len(), slots.len()).unwrap();
     text
+}
+
+/// "One figure a line in this order: accepted, a line of number and count for each refusal met, rising, grams, fan-seconds, then W and P on one
+/// line; or `refused 16 0`."
+pub fn season(stream: &[u8]) -> String {
+    let s = OWN.season(&stream[..stream.len().min(LONGEST_STREAM + 1)]);
+    if s.number != 0 {
+        return format!("refused {} {}\n", s.number, s.place);
+    }
+    let met = s.refused.iter().enumerate().filter(|(_, &count)| count > 0);
+    let refused: String = met.map(|(number, count)| format!("{number} {count}\n")).collect();
+    format!("{}\n{refused}{}\n{}\n{} {}\n", s.accepted, s.grams, s.seconds, s.weight, s.time)
 }
 
 /// The classes of an order, each as a set with its W and P, or its refusal, as judging reads it.

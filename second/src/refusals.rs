@@ -9,7 +9,7 @@ use crate::orders::{dose_record, fan_record, put, write, Dose, FIRST_TRIAL_BAY, 
 pub const TOO_SHORT: Planned = Planned { number: 1, place: 0, set: 0, weight: 0, time: 0, classes: 0, slots: 0 };
 
 /// F and so many doses of a bay each, one after the other.
-fn row(doses: u32) -> Vec<u8> {
+pub fn row(doses: u32) -> Vec<u8> {
     let windows: Vec<_> = (0..doses).map(|i| (i, i + 1, 1)).collect();
     write(&order(1, TOP, &windows), 0)
 }

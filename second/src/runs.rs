@@ -20,14 +20,14 @@ pub fn guarded(peer: &dyn Peer, seed: u64, number: u64, measure: Measure, tally:
     let run = catch_unwind(AssertUnwindSafe(|| case(peer, seed, number, measure, tally)));
     run.unwrap_or_else(|_| {
         let order = order_of(number, &mut Random::of_case(seed, number));
-        Err(Difference { what: "a panic".into(), order, plan: Vec::new(), log: Vec::new() })
+        Err(Difference { what: "a panic".into(), order, ..Difference::default() })
     })
 }
 
 fn keep(seed: u64, number: u64, d: &Difference) {
     let name = format!("failing-{seed}-{number}");
     println!("\ncase {number} of seed {seed}: {}", d.what);
-    for (end, bytes) in [("order", &d.order), ("plan", &d.plan), ("log", &d.log)] {
+    for (end, bytes) in [("order", &d.order), ("plan", &d.plan), ("log", &d.log), ("stream", &d.stream)] {
         let file = format!("{name}.{end}");
         match std::fs::write(&file, bytes) {
             Ok(()) => println!("  written to {file}, {} bytes", bytes.len()),

@@ -1,10 +1,11 @@
-//! The sample orders, and a stored plan.
+//! The sample orders, a stored plan, and the orders of a season.
 
 use crate::answers::accept;
 use crate::cases::{examples, order, p2, TOP};
 use crate::compare::order_of;
 use crate::orders::{write, Dose, Order, TrialBays};
 use crate::random::Random;
+use crate::streams;
 use crate::variants::{damage, standing};
 use std::path::Path;
 
@@ -87,6 +88,61 @@ pub fn all() -> Vec<(&'static str, Vec<u8>)> {
     own.into_iter().chain(later).collect()
 }
 
+/// Days in the sample season: six weeks.
+const DAYS: usize = 42;
+
+/// An ordinary day of the season: from 8 doses to all of the house's, with more grams from day to day.
+fn ordinary(day: usize) -> Order {
+    let rows = DAY.iter().enumerate().filter(|(i, _)| (7 * i + 5 * day) % DAY.len() < 8 + 11 * day % 17);
+    let mut o = order_on(5 + day as u32 % 4, &rows.map(|(_, row)| *row).collect::<Vec<_>>());
+    o.doses.iter_mut().for_each(|d| d.grams = d.grams * (58 + day as u32) / 100);
+    o
+}
+
+/// The ordinary day with one more dose in it.
+fn with_dose(day: usize, row: Row) -> Vec<u8> {
+    let mut o = ordinary(day);
+    o.doses.extend(order_on(1, &[row]).doses);
+    write(&o, 0)
+}
+
+/// The ordinary day with one byte of it put to another.
+fn with_byte(day: usize, at: usize, value: u8) -> Vec<u8> {
+    let mut bytes = write(&ordinary(day), 0);
+    bytes[at] = value;
+    bytes
+}
+
+/// The orders of a season, a day an order: ordinary days, and among them each refusal that can come, trial bays, days without a dose, and two
+/// doses at the top rate by different W and P.
+fn season() -> Vec<u8> {
+    let fast = Order { top_grams: 29, top_seconds: 10, ..house() };
+    let mut crowded = house();
+    crowded.doses.extend(order_on(8, &[(301, (9, 0), (10, 0), 900)]).doses);
+    let three_days = order_on(8, &[&DAY[..], &DAY, &DAY[..2]].concat());
+    let day = |day: usize| match day {
+        3 | 29 => old(),
+        5 => with_byte(day, 7 * 32 + 21, 0x40),
+        9 => write(&fast, 0),
+        12 => with_dose(day, (301, (9, 0), (10, 0), 0)),
+        13 | 27 => write(&order_on(8, &[]), 0),
+        16 => with_byte(day, 4 * 32, b'd'),
+        18 => with_dose(day, (302, (10, 0), (10, 5), 1_050)),
+        19 => with_dose(day, (201, (10, 0), (11, 0), 900)),
+        22 => write(&crowded, 0),
+        25 => write(&three_days, 0),
+        33 => with_dose(day, (302, (10, 0), (10, 10), 2_100)),
+        _ => write(&ordinary(day), 0),
+    };
+    (0..DAYS).flat_map(day).collect()
+}
+
+/// The sample streams by name. The second one is of orders whose F comes last.
+pub fn streams() -> Vec<(&'static str, Vec<u8>)> {
+    let last = [write(&order_on(2, &OLD), OLD.len()), write(&p2(), 3)].concat();
+    vec![("season", season()), ("no-season", last)]
+}
+
 fn put(folder: &Path, name: &str, end: &str, bytes: &[u8]) -> bool {
     let file = folder.join(format!("{name}.{end}"));
     let written = std::fs::write(&file, bytes);
@@ -94,12 +150,14 @@ fn put(folder: &Path, name: &str, end: &str, bytes: &[u8]) -> bool {
     written.is_ok()
 }
 
-/// Writes NAME.order for each sample, and in cases/ for P1 to P12; the texts beside them are the printer's own. Also the old order's plan.
+/// Writes NAME.order for each sample, and in cases/ for P1 to P12, and NAME.stream for the streams; the texts beside them are the programs' own.
+/// Also the old order's plan.
 pub fn make(folder: &str) -> bool {
     let (samples, cases) = (Path::new(folder), Path::new(folder).join("cases"));
     std::fs::create_dir_all(&cases).is_ok()
         && all().iter().all(|(name, bytes)| put(samples, name, "order", bytes))
         && put(samples, "old", "plan", &old_plan())
+        && streams().iter().all(|(name, bytes)| put(samples, name, "stream", bytes))
         && examples().iter().all(|(name, bytes)| put(&cases, name, "order", bytes))
 }
 
@@ -113,14 +171,15 @@ fn plan_for(order: &[u8], r: &mut Random) -> Vec<u8> {
     }
 }
 
-/// Writes the orders of a seed's first cases as 0.order, 1.order and so on, each with a plan for it as 0.plan, 1.plan and so on.
+/// Writes the orders of a seed's first cases as 0.order, 1.order and so on, each with a plan for it as 0.plan and a stream as 0.stream.
 pub fn make_cases(folder: &str, cases: u64, seed: u64) -> bool {
     let write_case = |number: u64| {
         let mut r = Random::of_case(seed, number);
         let order = order_of(number, &mut r);
         let plan = plan_for(&order, &mut r);
+        let stream = streams::any(&order, &mut r);
         let file = |end: &str| Path::new(folder).join(format!("{number}.{end}"));
-        std::fs::write(file("order"), order).is_ok() && std::fs::write(file("plan"), plan).is_ok()
+        [("order", order), ("plan", plan), ("stream", stream)].iter().all(|(end, bytes)| std::fs::write(file(end), bytes).is_ok())
     };
     std::fs::create_dir_all(folder).is_ok() && (0..cases).all(write_case)
 }

@@ -1,18 +1,19 @@
 //! The second program held against document 01's examples and against itself.
 
-use crate::answers::{accept, House, OWN};
+use crate::answers::{accept, House, OWN, OWN_FLOW};
 use crate::checks;
 use crate::classes::{by_flow, by_subsets};
 use crate::demand3;
 use crate::intervals::Intervals;
 use crate::layout::{plan_bytes, Slot};
+use crate::library::Peer;
 use crate::log::{flow, flow_bits, TOP_FLOW};
 use crate::measure::LITTLE;
 use crate::orders::{write, Order, TrialBays, RECORD};
 use crate::random::Random;
 use crate::runs;
 use crate::stands::{Broken, CLAUSES};
-use crate::{alone, clauses, near, seconds, styles, trial, variants};
+use crate::{alone, clauses, near, season, seconds, streams, styles, sums, trial, variants};
 use std::time::Instant;
 
 fn fail(what: &str, case: u64, order: &Order) -> bool {
@@ -70,13 +71,55 @@ fn flows() -> bool {
     (0..=TOP_FLOW).all(read) && count == TOP_FLOW as usize
 }
 
-/// Demand 3 at so many pairs of checks, C-12 around the edges of so many slots.
+/// Demand 3 at so many pairs of checks, C-12 around the edges of so many slots, and C-15's fan-seconds.
 fn sentences(house: &House, slots: &[Slot], times: u32, r: &mut Random) -> Result<(), String> {
     demand3::sentences(house, slots, times, r)?;
+    sums::fan_time(house, slots)?;
     seconds::sentences(house, slots, times as usize, r)
 }
 
-/// A plan in several shapes: each must stand and keep demand 3 and C-12.
+/// One stream: if it is read, it is its orders behind each other, each with one F, in front; its sheet is the same with classes by flow, and
+/// adds up where it is cut in two between orders. The answer is its number of orders, if it is read.
+fn one_stream(stream: &[u8], r: &mut Random) -> Result<Option<usize>, String> {
+    let fans = |bytes: &[u8]| bytes.chunks(RECORD).filter(|r| r[0] == b'F').count();
+    let whole = OWN.season(stream);
+    let Some(orders) = season::orders(stream) else {
+        let ragged = stream.len() > 65_536 || !stream.len().is_multiple_of(32);
+        let good = whole == season::REFUSED && (ragged || stream.first().is_some_and(|&kind| kind != 0x46));
+        return if good { Ok(None) } else { Err(format!("{whole:?} of a stream with no orders")) };
+    };
+    if orders.concat() != stream || orders.iter().any(|order| order[0] != b'F' || fans(order) != 1) {
+        return Err("a stream cut in the wrong places".into());
+    }
+    if OWN_FLOW.season(stream) != whole {
+        return Err("another sheet with classes by flow".into());
+    }
+    sums::counts(stream, &whole)?;
+    let (front, behind) = orders.split_at(r.below(orders.len() as u64 + 1) as usize);
+    sums::adds_up(&whole, [&OWN.season(&front.concat()), &OWN.season(&behind.concat())])?;
+    Ok(Some(orders.len()))
+}
+
+/// C-15's sentences about streams by chance.
+fn seasons(cases: u64, seed: u64) -> bool {
+    let began = Instant::now();
+    let (mut read, mut orders) = (0, 0);
+    for case in 0..cases {
+        let mut r = Random::of_case(seed ^ 0x1515, case);
+        let order = near::bytes(&mut r);
+        match one_stream(&streams::any(&order, &mut r), &mut r) {
+            Ok(count) => (read, orders) = (read + u64::from(count.is_some()), orders + count.unwrap_or(0)),
+            Err(what) => {
+                println!("case {case}: {what}");
+                return false;
+            }
+        }
+    }
+    took(&format!("{cases} streams, of which {read} are read, with {orders} orders, add up"), began);
+    true
+}
+
+/// A plan in several shapes: each must stand and keep demand 3, C-12 and C-15's fan-seconds.
 fn shapes(house: &House, r: &mut Random) -> Vec<(&'static str, Vec<Slot>)> {
     let own = house.slots(None);
     let other = house.slots(Some(r));
@@ -115,7 +158,7 @@ fn plans(cases: u64, seed: u64) -> bool {
         }
     }
     took(
-        &format!("{standing} plans stand and keep demand 3 and C-12, {differing} orders with other shares, longest {longest} slots"),
+        &format!("{standing} plans stand and keep demand 3, C-12 and C-15, {differing} orders with other shares, longest {longest} slots"),
         began,
     );
     true
@@ -180,7 +223,7 @@ fn place(clause: Broken) -> usize {
     CLAUSES.iter().position(|c| *c == clause).expect("every clause is listed")
 }
 
-/// Plans damaged at every byte: one verdict of both judges each, and those that still stand keep demand 3 and C-12.
+/// Plans damaged at every byte: one verdict of both judges each, and those that still stand keep demand 3, C-12 and C-15's fan-seconds.
 fn damage(cases: u64, seed: u64) -> bool {
     let began = Instant::now();
     let mut met = Met::default();
@@ -211,6 +254,7 @@ pub fn run(cases: u64, seed: u64) -> bool {
     good = classes(2 * cases, seed) && good;
     good = plans(cases, seed) && good;
     good = damage(cases / 4, seed) && good;
+    good = seasons(cases, seed) && good;
     good = runs::run(&OWN, cases / 20, seed, 0, 1, LITTLE) && good;
     println!("{}", if good { "self-test passed" } else { "self-test FAILED" });
     good

@@ -1,4 +1,5 @@
-//! Test builds only: errors that look right, each built into a copy of the reader, the planner, the judge, the line or the log.
+//! Test builds only: errors that look right, each built into a copy of the reader, the planner, the judge, the line, the log
+//! or the sheet.
 
 use crate::answers::{drawn, not_drawn, not_laid, planned, refusal, refused, House, OWN, PLAN_BUFFER};
 use crate::classes::{by_flow, open_time, too_fast, weight_of, Class, FEW};
@@ -6,7 +7,7 @@ use crate::compare::Difference;
 use crate::flow::Network;
 use crate::intervals::Intervals;
 use crate::layout::{plan_bytes, wrap, Slot};
-use crate::library::{Drawn, Judged, Laid, Peer, Planned};
+use crate::library::{Drawn, Judged, Laid, Peer, Planned, Season};
 use crate::measure::USUAL;
 use crate::orders::{Order, TrialBays, RECORD, WEEK};
 use crate::runs::guarded;
@@ -58,11 +59,30 @@ pub enum Slip {
     FifteenAfterRecords,
     FifteenAfterEight,
     DoseForPlace,
+    LastRecordLost,
+    FirstLeftOut,
+    OfNextFan,
+    FromFirstFan,
+    RaggedRead,
+    LongerRead,
+    LongestRefused,
+    EmptyRefused,
+    LongOrderRefusesAll,
+    ClosedToSeason,
+    AloneLeftOut,
+    RefusedGrams,
+    RefusedFirst,
+    FirstClassSeconds,
+    LaterTie,
+    WholeDivisionFirst,
+    FloatFirst,
+    ReducedFirst,
+    NoneIsZero,
 }
 
 use Slip::*;
 
-pub const SLIPS: [(Slip, &str); 43] = [
+pub const SLIPS: [(Slip, &str); 62] = [
     (FansUsed, "Fig. 2, line 6 as printed: the smaller of active doses and fans already used"),
     (FansUsedLater, "the same, but the first class sees all fans"),
     (AnySet, "any set of greatest rate: the last one met"),
@@ -106,6 +126,25 @@ pub const SLIPS: [(Slip, &str); 43] = [
     (FifteenAfterRecords, "15 looked for after all records, before 6"),
     (FifteenAfterEight, "15 looked for after 8"),
     (DoseForPlace, "15 with the dose's number as place"),
+    (LastRecordLost, "season: the last order without its last record"),
+    (FirstLeftOut, "season: orders from the second F on"),
+    (OfNextFan, "season: doses read with the F behind them"),
+    (FromFirstFan, "season: a stream that doesn't open with F read from its first F on"),
+    (RaggedRead, "season: bytes behind the last whole record left out"),
+    (LongerRead, "season: the first 65,536 bytes of a longer stream read"),
+    (LongestRefused, "season: 65,536 bytes refused"),
+    (EmptyRefused, "season: no bytes refused"),
+    (LongOrderRefusesAll, "season: 16 for an order over 1,600 bytes"),
+    (ClosedToSeason, "season: 15 for trial bays"),
+    (AloneLeftOut, "season: an F alone not counted"),
+    (RefusedGrams, "season: grams of orders refused by 9 counted"),
+    (RefusedFirst, "season: first classes of orders refused by 9 counted"),
+    (FirstClassSeconds, "season: fan-seconds of the first class only"),
+    (LaterTie, "season: a tie won by the later"),
+    (WholeDivisionFirst, "season: first classes compared by whole division"),
+    (FloatFirst, "season: first classes compared as 32-bit floats"),
+    (ReducedFirst, "season: W and P reduced"),
+    (NoneIsZero, "season: 0 and 0 if there is none"),
 ];
 
 /// A copy of the second program with one error in it.
@@ -157,7 +196,7 @@ impl Slipped {
         classes
     }
 
-    fn accept(&self, bytes: &[u8], trial_bays: TrialBays) -> Result<House, Judged> {
+    pub fn accept(&self, bytes: &[u8], trial_bays: TrialBays) -> Result<House, Judged> {
         let order = self.read(bytes, trial_bays).map_err(|r| refusal(r.number, r.place))?;
         let spans = Intervals::of(&order);
         let classes = self.classes(&order, &spans);
@@ -292,6 +331,10 @@ impl Peer for Slipped {
             Ok(house) => self.stands(&house, plan).map_or(not_laid(refusal(10, 0)), |slots| self.lay(&house, &slots, dose, log)),
         }
     }
+
+    fn season(&self, stream: &[u8]) -> Season {
+        self.add_up(stream)
+    }
 }
 
 /// The first case from `from` on that differs, if one does.
@@ -320,8 +363,9 @@ pub fn run(cases: u64, seed: u64) -> bool {
                 ("none".into(), "nothing".into())
             }
         };
-        let short =
-            [": Planned", ": Judged", ": Drawn", ": Laid"].iter().fold(&what[..], |what, answer| what.split(answer).next().unwrap_or(""));
+        let short = [": Planned", ": Judged", ": Drawn", ": Laid", ": Season"]
+            .iter()
+            .fold(&what[..], |what, answer| what.split(answer).next().unwrap_or(""));
         println!("| {words} | {n} | {random} | {} |", short.trim());
     }
     println!("\n{count} of {} errors found; 64-bit floats never differ", SLIPS.len());

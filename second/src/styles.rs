@@ -24,6 +24,8 @@ pub const STYLES: [&str; 14] = [
     "two groups",
 ];
 
+const HARD_STYLE: usize = 10;
+
 fn count(r: &mut Random) -> usize {
     match r.below(8) {
         0 => r.below(3) as usize,
@@ -198,13 +200,11 @@ fn set_top(order: &mut Order, r: &mut Random) {
     }
 }
 
-/// An order that passes 2 to 8, and the style it has.
-pub fn valid(r: &mut Random) -> (Order, usize) {
-    let style = r.below(STYLES.len() as u64) as usize;
-    let n = count(r);
+/// An order of this style that passes 2 to 8, of so many doses; the style of the hard sample has its own number.
+fn of_style(style: usize, n: usize, r: &mut Random) -> Order {
     let mut doses = match style {
         3 => touching(n, r),
-        10 => hard(r),
+        HARD_STYLE => hard(r),
         _ => {
             let list = windows(style, n, r);
             own_bays(list, r)
@@ -213,7 +213,21 @@ pub fn valid(r: &mut Random) -> (Order, usize) {
     rename(&mut doses, r);
     let mut order = Order { fans: if r.once_in(4) { r.range(1, 2) } else { r.range(1, 8) }, top_grams: 1, top_seconds: 1, doses };
     set_top(&mut order, r);
-    (order, style)
+    order
+}
+
+/// An order that passes 2 to 8, and the style it has.
+pub fn valid(r: &mut Random) -> (Order, usize) {
+    let style = r.below(STYLES.len() as u64) as usize;
+    let n = count(r);
+    (of_style(style, n, r), style)
+}
+
+/// An order that passes 2 to 8, of any other style than the hard sample's, with at most so many doses.
+pub fn few(most: u64, r: &mut Random) -> Order {
+    let style = r.below(STYLES.len() as u64 - 1) as usize;
+    let n = r.below(most + 1) as usize;
+    of_style(if style < HARD_STYLE { style } else { style + 1 }, n, r)
 }
 
 /// Styles of orders for measuring.

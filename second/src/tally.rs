@@ -4,7 +4,8 @@ use crate::answers::House;
 use crate::layout::Slot;
 use crate::library::Judged;
 use crate::log::{metered, Fault, Read, Reading, FAULTS};
-use crate::orders::Refusal;
+use crate::orders::{Refusal, RECORD};
+use crate::season::{above, sheet, Figures, Rate};
 use crate::seconds::SECONDS;
 use crate::stands::CLAUSES;
 use crate::trial;
@@ -25,6 +26,22 @@ pub struct Tally {
     faults: [u64; FAULTS.len()],
     stretches: [u64; STRETCHES.len()],
     most_records: usize,
+    streams: Streams,
+}
+
+/// What was answered of streams, and of the orders in those that were read.
+#[derive(Clone, Default)]
+struct Streams {
+    answers: [u64; 17],
+    added_up: u64,
+    most_orders: usize,
+    orders: [u64; 10],
+    /// Accepted orders with trial bays, and those of an F record alone.
+    old: u64,
+    alone: u64,
+    /// Streams in which another order has the greatest first class's rate, by other W and P; and a lower one of the same whole grams a second.
+    ties: u64,
+    near_ties: u64,
 }
 
 /// What was answered of orders that name trial bays.
@@ -104,8 +121,32 @@ impl Tally {
         }
     }
 
+    pub fn season(&mut self, number: u32) {
+        self.streams.answers[number.min(16) as usize] += 1;
+    }
+
+    /// A stream whose sheet was held against those of two pieces.
+    pub fn added_up(&mut self) {
+        self.streams.added_up += 1;
+    }
+
+    /// A stream that was read: its orders, and what each adds or is refused by.
+    pub fn stream(&mut self, orders: &[&[u8]], figures: &[Result<Figures, u32>]) {
+        let s = &mut self.streams;
+        s.most_orders = s.most_orders.max(orders.len());
+        for (order, figures) in orders.iter().zip(figures) {
+            s.orders[figures.as_ref().err().map_or(0, |&number| number as usize)] += 1;
+            s.old += u64::from(figures.is_ok() && trial::first_record(order).is_some());
+            s.alone += u64::from(figures.is_ok() && order.len() == RECORD);
+        }
+        let season = sheet(figures);
+        let greatest = (season.weight, season.time);
+        let met = |beside: fn(Rate, Rate) -> bool| figures.iter().flatten().filter_map(|f| f.first).any(|rate| beside(greatest, rate));
+        s.ties += u64::from(met(|a, b| a != b && !above(a, b)));
+        s.near_ties += u64::from(met(|a, b| above(a, b) && a.0 / a.1 == b.0 / b.1));
+    }
+
     pub fn add(&mut self, other: &Tally) {
-        let sum = |a: &mut [u64], b: &[u64]| a.iter_mut().zip(b).for_each(|(x, y)| *x += y);
         self.cases += other.cases;
         self.standing += other.standing;
         self.most_slots = self.most_slots.max(other.most_slots);
@@ -116,6 +157,7 @@ impl Tally {
         self.old.standing += other.old.standing;
         self.old.drawn += other.old.drawn;
         self.old.laid += other.old.laid;
+        self.streams.add(&other.streams);
         sum(&mut self.plannings, &other.plannings);
         sum(&mut self.drawings, &other.drawings);
         sum(&mut self.seconds, &other.seconds);
@@ -127,10 +169,6 @@ impl Tally {
     }
 
     pub fn print(&self) {
-        let row = |list: &[u64]| {
-            let met = list.iter().enumerate().filter(|(_, &n)| n > 0);
-            met.map(|(i, n)| format!("{i}: {n}")).collect::<Vec<_>>().join(", ")
-        };
         println!("cases {}", self.cases);
         println!("orders by answer      {}", row(&self.orders));
         println!("judged by doses       {}", row(&self.doses));
@@ -154,7 +192,43 @@ impl Tally {
         for (fault, n) in FAULTS.iter().zip(self.faults) {
             println!("logs refused          {n:>9}  {fault}");
         }
+        self.streams.print();
     }
+}
+
+impl Streams {
+    fn add(&mut self, other: &Streams) {
+        sum(&mut self.answers, &other.answers);
+        sum(&mut self.orders, &other.orders);
+        self.added_up += other.added_up;
+        self.most_orders = self.most_orders.max(other.most_orders);
+        self.old += other.old;
+        self.alone += other.alone;
+        self.ties += other.ties;
+        self.near_ties += other.near_ties;
+    }
+
+    fn print(&self) {
+        println!(
+            "streams by answer     {}, the most orders {}, added up in two pieces {}",
+            row(&self.answers),
+            self.most_orders,
+            self.added_up
+        );
+        println!("orders in streams     {}", row(&self.orders));
+        println!("accepted in streams   {} with trial bays, {} of an F record alone", self.old, self.alone);
+        println!("greatest first class  {} streams with a tie, {} with a near tie", self.ties, self.near_ties);
+    }
+}
+
+fn sum(a: &mut [u64], b: &[u64]) {
+    a.iter_mut().zip(b).for_each(|(x, y)| *x += y);
+}
+
+/// The counts that are not zero.
+fn row(list: &[u64]) -> String {
+    let met = list.iter().enumerate().filter(|(_, &n)| n > 0);
+    met.map(|(i, n)| format!("{i}: {n}")).collect::<Vec<_>>().join(", ")
 }
 
 /// The kind of a stretch, by its place in the list.
