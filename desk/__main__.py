@@ -7,6 +7,7 @@ import re
 import signal
 import subprocess
 import sys
+import tempfile
 from collections.abc import Callable
 from pathlib import Path
 
@@ -16,10 +17,11 @@ from .library import Library
 from .logs import Log
 from .orders import Order, Wrong, read_order, write_text
 from .plans import Differs, Plan
-from .words import Refusal, check, check_text, line_words, log_words, plan_words
+from .words import Refusal, check, check_season, check_text, line_words, log_words, plan_words, season_words
 
 HOME = Path(__file__).resolve().parent.parent
-LIBRARY, PRINTER = "target/staticlib/libknellgable.so", "target/bin/printer"
+LIBRARY = "target/staticlib/libknellgable.so"
+PRINTER, SEASON = "target/bin/printer", "target/bin/season"
 need: Callable[[str], Path] = HOME.joinpath  # ./knell builds it first
 VERBS: dict[str, tuple[str, str, Callable[..., int | None]]] = {}
 
@@ -62,7 +64,15 @@ def log_of_dose(word: str) -> tuple[int, bytes]:
 
 
 KINDS = {"ORDER": read_order, "PLAN": read_bytes, "OUT": writable, "DOSE": dose_number, "LOG": read_bytes,
-         "DOSE=LOG": log_of_dose}
+         "DOSE=LOG": log_of_dose, "STREAM": read_bytes}
+
+
+def printed(program: str, data: bytes) -> int:
+    """Has a proved program print what it says of these bytes: its status. It may end before it has read them all."""
+    with tempfile.TemporaryFile() as lent:
+        lent.write(data)
+        lent.seek(0)
+        return subprocess.run([need(program)], stdin=lent, check=False).returncode
 
 
 def library_for(order: Order) -> Library:
@@ -102,7 +112,7 @@ def both_forms(order: Order) -> Order:
 def plan(order: Order, out: Path | None, records: bool) -> int | None:
     if records:
         library_for(order)
-        status = subprocess.run([need(PRINTER)], input=order.data, check=False).returncode
+        status = printed(PRINTER, order.data)
         if status or not out:
             return status
     made = plan_for(order, None)
@@ -143,6 +153,17 @@ def make_sheet(order: Order, plan: bytes | None, out: Path, log: list[tuple[int,
     print(f"{out}: {sheet.title_of(made)}, the plan stands")
 
 
+@verb("season STREAM [--words]", "adds up a file of orders: the figures as the proved program prints them, or in words")
+def add_up(stream: bytes, words: bool) -> int | None:
+    if not words:
+        return printed(SEASON, stream)
+    library = Library(need(LIBRARY))
+    season = library.season(stream)
+    check_season(season, stream, library)
+    print(season_words(season))
+    return None
+
+
 @verb("order ORDER OUT.order", "writes an order's bytes")
 def to_bytes(order: Order, out: Path) -> None:
     out.write_bytes(both_forms(order).data)
@@ -161,7 +182,8 @@ class Parser(argparse.ArgumentParser):
 
 def show_help() -> int:
     width = max(len(use) for use, _, _ in VERBS.values())
-    print("use: ./knell VERB ..; an ORDER is bytes, or text where its name ends in .csv")
+    print("use: ./knell VERB ..; an ORDER is bytes, or text where its name ends in .csv; a STREAM is orders' bytes, "
+          "one behind the other")
     for use, does, _ in VERBS.values():
         print(f"  {use:{width}}  {does}")
     print("It exits 0, 1 at a refusal, and 2 at bad use, a file that can't be read or written, or a failed build.")

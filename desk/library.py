@@ -12,6 +12,7 @@ from pathlib import Path
 from struct import Struct
 
 RECORD, PLAN_ROOM, WEEK = 32, 47392, 604800
+ORDER_NUMBERS = 10  # by which an order of a stream may be refused, from 0
 GRAM = 1024  # a log's figures are in 1/1024 gram
 STATES = ("finished", "shut", "idle", "dosing")
 IDLE, DOSING = STATES.index("idle"), STATES.index("dosing")
@@ -23,22 +24,32 @@ Answer = make_dataclass("Answer", [
 Planned = make_dataclass("Planned", [("classes", SIZE), ("slots", SIZE)], bases=(Answer,), frozen=True)
 Drawn = make_dataclass("Drawn", [("amount", NUMBER), ("state", NUMBER), ("fan", NUMBER)], bases=(Answer,), frozen=True)
 Laid = make_dataclass("Laid", [("metered", LARGE), ("risen", LARGE), ("unknown", NUMBER)], bases=(Answer,), frozen=True)
+AddedUp = make_dataclass("AddedUp", [
+    ("number", NUMBER), ("place", SIZE), ("accepted", NUMBER), ("refused", NUMBER * ORDER_NUMBERS),
+    ("grams", LARGE), ("seconds", LARGE), ("weight", LARGE), ("time", LARGE)], frozen=True)
 
 
-def bound(function, answer: type, *more):
-    """A function of an order, a plan and more, that answers a dataclass."""
+def answering(function, answer: type, *taken):
+    """A function that takes such values and answers a dataclass; an array in it is a tuple."""
     widths = [(field.name, field.type) for field in fields(answer)]
     function.restype = type(answer.__name__, (ctypes.Structure,), {"_fields_": widths})
-    function.argtypes = [ctypes.c_char_p, SIZE, ctypes.c_char_p, SIZE, *more]
+    function.argtypes = taken
 
-    def call(order: bytes, plan: bytes = b"", *given):
-        got = function(order, len(order), plan, len(plan), *given)
-        return answer(*(getattr(got, name) for name, _ in widths))
+    def call(*given):
+        got = function(*given)
+        values = (getattr(got, name) for name, _ in widths)
+        return answer(*(tuple(value) if isinstance(value, ctypes.Array) else value for value in values))
     return call
 
 
+def bound(function, answer: type, *more):
+    """A function of an order, a plan and more."""
+    ask = answering(function, answer, ctypes.c_char_p, SIZE, ctypes.c_char_p, SIZE, *more)
+    return lambda order, plan=b"", *given: ask(order, len(order), plan, len(plan), *given)
+
+
 class Library:
-    """The five functions. Orders, plans and logs are any bytes; every call gets one answer."""
+    """The six functions. Orders, plans, logs and streams are any bytes; every call gets one answer."""
 
     def __init__(self, path: Path):
         library = ctypes.CDLL(str(path))
@@ -47,6 +58,7 @@ class Library:
         self._plan = bound(library.knellgable_plan, Planned)
         self._advance = bound(library.knellgable_advance, Drawn, SIZE, ctypes.POINTER(NUMBER))
         self._log = bound(library.knellgable_log, Laid, SIZE, ctypes.c_char_p, SIZE)
+        self._season = answering(library.knellgable_season, AddedUp, ctypes.c_char_p, SIZE)
 
     def plan(self, order: bytes) -> tuple[Planned, bytes]:
         """The answer, and the plan's own bytes."""
@@ -61,6 +73,9 @@ class Library:
 
     def log(self, order: bytes, plan: bytes, dose: int, log: bytes) -> Laid:
         return self._log(order, plan, dose, log, len(log))
+
+    def season(self, stream: bytes) -> AddedUp:
+        return self._season(stream, len(stream))
 
 
 @dataclass(frozen=True)

@@ -1,4 +1,4 @@
-"""Plans and lines in words, in the times that the order is written in, and every refusal with what it names.
+"""Plans, lines and seasons in words, in the times that the order is written in, and every refusal with what it names.
 
 What is wrong where is asked of the library.
 """
@@ -10,7 +10,7 @@ from fractions import Fraction
 from textwrap import fill
 
 from .figures import count, decimal, grams, in_percent, listed, rate
-from .library import DOSING, MOST, RECORD, STATES, WEEK, Answer, Dose, Fans, Library, Meter, write_record
+from .library import DOSING, MOST, RECORD, STATES, WEEK, AddedUp, Answer, Dose, Fans, Library, Meter, write_record
 from .logs import Log
 from .orders import RANGES, ROWS, Order, Wrong, out_of_range
 from .plans import Plan
@@ -31,6 +31,7 @@ FACTS = {
     13: "The log has a bad length, kind, form or field, or a bay other than the dose's.",
     14: "A tick of the log is not above the one before.",
     15: "Trial bays, 900 to 999, are closed: a new order that names one is not planned.",
+    16: "A stream is whole records of 32 bytes, at most 2,048 of them, and begins with fans (F).",
 }
 LINES = 24  # of a dose in words
 GOOD = {Dose: Dose(1, 0, WEEK, 1), Fans: Fans(1, 1, 1)}
@@ -39,7 +40,7 @@ GOOD = {Dose: Dose(1, 0, WEEK, 1), Fans: Fans(1, 1, 1)}
 @dataclass
 class Refusal(Exception):
     """What a refusal's number says, what that is of this order, and what it names."""
-    answer: Answer
+    answer: Answer | AddedUp
     detail: list[str]
     doses: list[int]
     record: bytes
@@ -91,6 +92,14 @@ def check(answer: Answer, order: Order, library: Library, log: Log | None = None
         said, wrong_bytes = wrong_log(log, data)
         detail = [said]
     raise Refusal(answer, detail, doses, data, wrong_bytes)
+
+
+def check_season(season: AddedUp, stream: bytes, library: Library) -> None:
+    """Raises the refusal of a stream, if it is one: of its length where another first byte would not mend it."""
+    if season.number:
+        length = library.season(b"F" + stream[1:]).number
+        wrong = f"it has {count(len(stream), 'byte')}" if length else f"its first byte is {stream[0]:02x}, not 46 (F)"
+        raise Refusal(season, [wrong], [], b"", [])
 
 
 def wrong_record(number: int, order: Order, at: int, library: Library) -> tuple[str, list[int]]:
@@ -232,3 +241,13 @@ def log_words(log: Log) -> str:
     when = f", {order.time(ticks[0])} to {order.time(ticks[-1], True)}" if len(ticks) > 1 else ""
     return "\n".join([window_words(order, log.dose), count(len(ticks), "reading") + when,
                       *(f"  {name:16}  {words}" for name, words in log_facts(log))])
+
+
+def season_words(season: AddedUp) -> str:
+    """A line for each figure, in the program's sequence."""
+    refused = [f"{count(orders, 'order')} refused {number}: {FACTS[number]}"
+               for number, orders in enumerate(season.refused) if orders]
+    first = f"{rate(Fraction(season.weight, season.time))}, which is {season.weight:,} g in {season.time:,} fan-seconds"
+    return "\n".join([f"{count(season.accepted, 'order')} accepted", *refused, f"{season.grams:,} g in accepted orders",
+                      f"{season.seconds:,} fan-seconds in accepted orders",
+                      f"greatest first class: {first}" if season.weight else "no accepted order has a dose"])
