@@ -11,20 +11,20 @@ use Prim.Native.Nat.{ℕ, _+_, _/_, _%_, _≤_, _<_}
 use native.Mathlib.Nat.{eq-zero-or-pos}
 use native.Mathlib.Omega.{arith}
 use borrow.Author.Tests.{eqb-false, leb-false}
-use lib.Dec.{T, eqb, leb}
-use lib.ListN.{length, getD, replicate}
+use lib.Dec.{eqb, leb}
+use lib.ListN.{length, getD}
 use Rattle.model.specs.Limits.{mostBay, orderNumbers, streamRoom}
 use Rattle.model.specs.Sets.{Doses, on, sum}
-use Rattle.model.specs.Lists.{All, Each, beside, ended, total}
+use Rattle.model.specs.Lists.{Along, beside, ended, total}
 use Rattle.model.specs.Records.{Reading, pick, read, recordSize, refused}
 use Rattle.model.specs.Orders.{Order}
 use Rattle.model.specs.Classes.{Classes, classP}
 use Rattle.model.specs.Intervals.{fansPresent, settingOf}
 use Rattle.model.specs.Stands.{Stands}
-use Rattle.model.specs.Answers.{Accepts, Answer, Judges, done, refusal}
-use Rattle.model.specs.Season.{AddedUp, AddsUp, Comes, begins, ordersFrom, streamFits, FirstRate, Outcome, Rate, Season, Takes, acceptedWith, first-class, firstOf, no-class, greater, gramsOf, greatestFrom, ifAccepted, noRate, notAddedUp, readStream, refusedBy, seasonOf, secondsOf}
-use Rattle.model.proofs.Answers.{first-next, no-doses, one-order, refused-not-accepted, refuses-open, refuses-some}
-use Rattle.model.proofs.Lists.{Each-append, total-append}
+use Rattle.model.specs.Answers.{Accepts, Answer, Judges, refusal}
+use Rattle.model.specs.Season.{AddedUp, AddsUp, Comes, begins, ordersFrom, streamFits, FirstRate, Outcome, Rate, Season, Takes, acceptedWith, first-class, no-class, greater, gramsOf, ifAccepted, noRate, notAddedUp, readStream, refusedBy, seasonOf, secondsOf}
+use Rattle.model.proofs.Answers.{first-next, no-doses, one-order, refused-not-accepted}
+use Rattle.model.proofs.Lists.{Along-append, total-append}
 use Rattle.model.proofs.Orders.{no-refusal, read-fits}
 use Rattle.model.proofs.Season.{adds-up-one, classes-time, stands-takes, takes-all}
 use Rattle.model.proofs.Written.{plan-stands}
@@ -39,7 +39,7 @@ pub record Added (stream : List ℕ) (x : AddedUp) : Type 0 where
   pub orders : List (List ℕ)
   pub reads : readStream stream ≡ read orders
   pub outcomes : List Outcome
-  pub each : Each Comes orders outcomes
+  pub each : Along Comes orders outcomes
   pub is : x .season ≡ seasonOf outcomes
 
 -- ---- "Every order .. gets an answer", and "A refusal is one of the numbered ones"
@@ -116,7 +116,7 @@ comes-some order = elim (order-decided mostBay order) [
       | inr l ↦ (_, first-class (C 0) (first-next o p C c l))
     ]
 
-each-some : (orders : List (List ℕ)) → (outcomes : List Outcome) × Each Comes orders outcomes
+each-some : (orders : List (List ℕ)) → (outcomes : List Outcome) × Along Comes orders outcomes
 each-some [] = ([], ended)
 each-some (order ∷ orders) = let x = comes-some order in let xs = each-some orders in (x .0 ∷ xs .0, beside (x .1) (xs .1))
 
@@ -208,7 +208,7 @@ unfolding seasonOf
 seasons-add-up {s} {t} {x} {y} {u} hx zx hy zy room hu =
     let a = added hx zx in
     let b = added hy zy in
-    let both = AddsUp.adds-up (a .orders ++ b .orders) (joined-reads s t (a .orders) (b .orders) (a .reads) (b .reads) room) (a .outcomes ++ b .outcomes) (Each-append (a .each) (b .each)) in
+    let both = AddsUp.adds-up (a .orders ++ b .orders) (joined-reads s t (a .orders) (b .orders) (a .reads) (b .reads) room) (a .outcomes ++ b .outcomes) (Along-append (a .each) (b .each)) in
     let same = adds-up-one hu both in (
       ap (λ (u : AddedUp). u .answer .number) same,
       subst (λ (u : Season). SeasonsAddUp (x .season) (y .season) u) (sym (ap (λ (u : AddedUp). u .season) same))

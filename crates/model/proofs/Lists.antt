@@ -8,7 +8,7 @@ use native.Mathlib.Omega.{arith}
 use lib.ListN.{List·getD-append, length, getD, length-append}
 use lib.Seq.{getD-append-add}
 use Rattle.model.specs.Sets.{sum}
-use Rattle.model.specs.Lists.{gather, total, All, none, also, Pairs, lone, then, Each, ended, beside}
+use Rattle.model.specs.Lists.{gather, total, All, none, also, Pairs, lone, then, Along, ended, beside}
 use Rattle.model.proofs.Sums.{last}
 
 -- ---- sums
@@ -185,16 +185,11 @@ module _ {A B : Type 0} (f : A → B) where
 
 module _ {A B : Type 0} {R : A → B → Type 0} where
   -- of two lists, one behind the other
-  pub Each-append : {l : List A} {m : List B} {l′ : List A} {m′ : List B} → Each R l m → Each R l′ m′ → Each R (l ++ l′) (m ++ m′)
-  Each-append ended h = h
-  Each-append (beside r g) h = beside r (Each-append g h)
+  pub Along-append : {l : List A} {m : List B} {l′ : List A} {m′ : List B} → Along R l m → Along R l′ m′ → Along R (l ++ l′) (m ++ m′)
+  Along-append ended h = h
+  Along-append (beside r g) h = beside r (Along-append g h)
 
   -- where each member has one, there is one list
-  pub Each-one : ((a : A) (x y : B) → R a x → R a y → x ≡ y) → {l : List A} {m m′ : List B} → Each R l m → Each R l m′ → m ≡ m′
-  Each-one one ended ended = refl
-  Each-one one (beside {a = a} {b = x} r g) (beside {b = y} s h) = ap₂ (λ (x : B) (l : List B). x ∷ l) (one a x y r s) (Each-one one g h)
-
-  -- they are as long
-  pub Each-length : {l : List A} {m : List B} → Each R l m → length l ≡ length m
-  Each-length ended = refl
-  Each-length (beside r g) = omega (arith, Each-length g)
+  pub Along-one : ((a : A) (x y : B) → R a x → R a y → x ≡ y) → {l : List A} {m m′ : List B} → Along R l m → Along R l m′ → m ≡ m′
+  Along-one one ended ended = refl
+  Along-one one (beside {a = a} {b = x} r g) (beside {b = y} s h) = ap₂ (λ (x : B) (l : List B). x ∷ l) (one a x y r s) (Along-one one g h)

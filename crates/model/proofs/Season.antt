@@ -3,15 +3,14 @@
 use mathlib.Core.Bool.{Bool, false, true}
 use mathlib.Core.Path.{_∙_, _≡_, ap, ap₂, refl, subst, sym}
 use mathlib.Core.List.{List, [], _∷_}
-use Prim.Native.Nat.{ℕ, suc, zero, _+_, _*_, _-_, _≤_, _<_}
+use Prim.Native.Nat.{ℕ, _*_, _-_, _<_}
 use native.Mathlib.Nat.{eq-of-mul-eq-mul-left, mul-pos}
 use native.Mathlib.Omega.{arith}
 use borrow.Author.Tests.{eq-eqb, eqb-true, ne-eqb}
 use lib.Dec.{T, eqb}
 use Rattle.model.specs.Limits.{mostBay}
 use Rattle.model.specs.Sets.{Doses, on, sum, weight}
-use Rattle.model.specs.Lists.{All, Each, also, beside, ended, none, total}
-use Rattle.model.specs.Records.{read, refused}
+use Rattle.model.specs.Lists.{All, Along, also, none, total}
 use Rattle.model.specs.Orders.{Order, noDose}
 use Rattle.model.specs.Classes.{Classes, P, Row, Setting, W, classP}
 use Rattle.model.specs.Intervals.{fansPresent, settingOf}
@@ -19,11 +18,11 @@ use Rattle.model.specs.Plans.{Slot, planRecords, slotsRead}
 use Rattle.model.specs.Stands.{Named, SlotsStand, Stands, ends, starts, unitsOf}
 use Rattle.model.specs.Answers.{Answer, done, refusal}
 use Rattle.model.specs.Season.{AddedUp, AddsUp, Comes, FirstRate, Outcome, Rate, Takes, acceptedWith, first-class, no-class, notAddedUp, refusedBy, seasonOf, slotsTime}
-use Rattle.model.proofs.Lists.{All-imp, Each-one, total-at, total-congr}
+use Rattle.model.proofs.Lists.{All-imp, Along-one, total-at, total-congr}
 use Rattle.model.proofs.Orders.{Fit, no-refusal, read-fits}
 use Rattle.model.proofs.Planner.{stand-read}
 use Rattle.model.proofs.PlanPieces.{class-grid, grid, grid-pos, scale, scale-class, slot-grid, unit}
-use Rattle.model.proofs.Sequence.{Nested, all-in, nested, nested-one, prefix, prefix-weight, upto, upto-find}
+use Rattle.model.proofs.Sequence.{Nested, all-in, nested, nested-one, prefix, prefix-weight, upto}
 use Rattle.model.proofs.Sets.{Alike, alike, weight-all, weight-alike, weight-on-set, weight-scale}
 use Rattle.model.proofs.Answers.{one-order, refused-not-accepted, refuses-one}
 use Rattle.model.proofs.FanTime.{P-alike}
@@ -223,5 +222,5 @@ adds-up-one (AddsUp.refuses n p e) (AddsUp.adds-up l f m h) = absurd (no-refusal
 adds-up-one (AddsUp.adds-up l f m h) (AddsUp.refuses n p e) = absurd (no-refusal n p l (sym e ∙ f))
 adds-up-one {stream} (AddsUp.adds-up l f m h) (AddsUp.adds-up l′ f′ m′ h′) =
     let same : l′ ≡ l = cc in
-    let outcomes : m ≡ m′ = Each-one (λ a x y. comes-one) h (subst (λ (l : List (List ℕ)). Each Comes l m′) same h′) in
+    let outcomes : m ≡ m′ = Along-one (λ a x y. comes-one) h (subst (λ (l : List (List ℕ)). Along Comes l m′) same h′) in
     ap (λ (m : List Outcome). record { answer = done; season = seasonOf m }) outcomes

@@ -1,4 +1,4 @@
--- Lists of slots and records: lists made of lists, totals, and what holds of all members or of each two.
+-- Lists of slots and records: lists made of lists, totals, and what holds of all members, of each two, or along two lists.
 use mathlib.Core.List.{List, [], _∷_, _++_}
 use Prim.Native.Nat.{ℕ, zero, suc, _+_}
 
@@ -23,6 +23,6 @@ pub data Pairs {A : Type 0} (R : A → A → Type 0) : List A → Type 0 where
   then : {a : A} {l : List A} → All (R a) l → Pairs R l → Pairs R (a ∷ l)
 
 -- R holds of every member and the one in its place in the other list, which is as long
-pub data Each {A B : Type 0} (R : A → B → Type 0) : List A → List B → Type 0 where
-  ended : Each R [] []
-  beside : {a : A} {b : B} {l : List A} {m : List B} → R a b → Each R l m → Each R (a ∷ l) (b ∷ m)
+pub data Along {A B : Type 0} (R : A → B → Type 0) : List A → List B → Type 0 where
+  ended : Along R [] []
+  beside : {a : A} {b : B} {l : List A} {m : List B} → R a b → Along R l m → Along R (a ∷ l) (b ∷ m)

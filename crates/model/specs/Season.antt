@@ -7,7 +7,7 @@ use lib.Dec.{eqb, leb, ltb}
 use lib.ListN.{length, getD, take, drop, replicate}
 use Rattle.model.specs.Limits.{mostBay, orderNumbers, streamRoom}
 use Rattle.model.specs.Sets.{on, Doses}
-use Rattle.model.specs.Lists.{gather, total, Each}
+use Rattle.model.specs.Lists.{gather, total, Along}
 use Rattle.model.specs.Records.{pick, Reading, read, refused, recordSize, fansKind, recordAt}
 use Rattle.model.specs.Orders.{Order}
 use Rattle.model.specs.Classes.{W, P}
@@ -168,5 +168,5 @@ notAddedUp a = record {
 -- adding up a stream: 16, or what its orders come to, one after the other
 pub data AddsUp (stream : List ℕ) : AddedUp → Type 0 where
   refuses : (number place : ℕ) → readStream stream ≡ refused number place → AddsUp stream (notAddedUp (refusal number place))
-  adds-up : (orders : List (List ℕ)) → readStream stream ≡ read orders → (outcomes : List Outcome) → Each Comes orders outcomes
+  adds-up : (orders : List (List ℕ)) → readStream stream ≡ read orders → (outcomes : List Outcome) → Along Comes orders outcomes
       → AddsUp stream (record { answer = done; season = seasonOf outcomes })

@@ -1,6 +1,6 @@
 -- Streams of orders (document 02, C-15), as one list of rows and one claim about a row; and the test that is computed of a row.
 use mathlib.Core.Path.{_≡_}
-use mathlib.Core.Bool.{Bool, false, _&&_}
+use mathlib.Core.Bool.{Bool, _&&_}
 use mathlib.Core.List.{List, [], _∷_, _++_, map}
 use Prim.Native.Nat.{ℕ}
 use lib.Dec.{T, eqb}

@@ -10,10 +10,10 @@ use lib.Dec.{eqb, leb}
 use lib.ListN.{length, take, drop}
 use Rattle.model.specs.Limits.{streamRoom}
 use Rattle.model.specs.Records.{recordSize}
-use Rattle.model.specs.Lists.{Each, beside, ended}
+use Rattle.model.specs.Lists.{Along, beside, ended}
 use Rattle.model.specs.Season.{AddsUp, Comes, Outcome, beforeNext, begins, notAddedUp, ordersFrom, readStream, recordsAt, seasonOf, streamFits}
 use Rattle.model.specs.Answers.{done, refusal}
-use Rattle.model.proofs.Lists.{Each-append}
+use Rattle.model.proofs.Lists.{Along-append}
 use Rattle.season.specs.Adding.{withOutcome}
 use Rattle.season.specs.Held.{OutcomeFits, SeasonFits, SeasonIn, asAddedUp, asOutcome, asSeason, opensWith}
 use Rattle.season.specs.declared.outcome.Outcome.{Outcome as Held}
@@ -29,7 +29,7 @@ pub record Adding (stream : List ℕ) (n i : ℕ) (s : Season) : Type 0 where
   pub begun : i < n → begins stream i ≡ true
   pub orders : List (List ℕ)
   pub outcomes : List Outcome
-  pub each : Each Comes orders outcomes
+  pub each : Along Comes orders outcomes
   pub whole : orders ++ ordersFrom stream i (n - i) ≡ ordersFrom stream 0 n
   pub figures : asSeason s ≡ seasonOf outcomes
   pub fits : SeasonFits i s
@@ -67,7 +67,7 @@ adding-order {stream} {n} {i} {next} {s} {r} x a l e comes h f =
       begun = λ q. rw to (next-begins stream (i + 1) (n - i - 1) (omega (arith, to)));
       orders = a .orders ++ mine ∷ [];
       outcomes = a .outcomes ++ asOutcome x ∷ [];
-      each = Each-append (a .each) (beside (rw long at comes) ended);
+      each = Along-append (a .each) (beside (rw long at comes) ended);
       whole = append-assoc (a .orders) (mine ∷ []) (ordersFrom stream next (n - next))
           ∙ ap (λ (l : List (List ℕ)). a .orders ++ l) (sym (rw (left, ← to) at first))
           ∙ a .whole;

@@ -1,18 +1,16 @@
 -- What one order comes to, by its classes: their grams, their P and the first of them. Assumes nothing.
 use mathlib.Core.Bool.{true, false}
 use mathlib.Core.List.{List}
-use mathlib.Core.Path.{_≡_, ap, _∙_, sym}
+use mathlib.Core.Path.{_≡_, _∙_}
 use Prim.Native.Nat.{ℕ, _<_, _≤_}
 use native.Mathlib.Omega.{arith}
 use lib.ListN.{getD}
 use Rattle.model.specs.Limits.{mostBay, mostDoses, mostWeight}
 use Rattle.model.specs.Sets.{sum}
-use Rattle.model.specs.Lists.{total}
 use Rattle.model.specs.Records.{read, refused}
 use Rattle.model.specs.Orders.{Order, readOrder}
-use Rattle.model.specs.Classes.{W, classP}
 use Rattle.model.specs.Intervals.{fansPresent, settingOf}
-use Rattle.model.specs.Answers.{planBytes, refusal, unread}
+use Rattle.model.specs.Answers.{refusal, unread}
 use Rattle.model.specs.Answers as answers
 use Rattle.model.specs.Season.{Comes, FirstRate, Rate, acceptedWith, first-class, no-class, refusedBy}
 use Rattle.model.proofs.Sums.{sum-congr}

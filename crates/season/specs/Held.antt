@@ -2,13 +2,13 @@
 use mathlib.Core.Path.{_≡_}
 use mathlib.Core.Bool.{true}
 use mathlib.Core.List.{List}
-use Prim.Native.Nat.{ℕ, _+_, _*_, _/_, _<_, _≤_}
+use Prim.Native.Nat.{ℕ, _*_, _/_, _<_, _≤_}
 use lib.Dec.{T}
 use lib.ListN.{length, getD}
 use Rattle.model.specs.Limits.{mostDoses, mostWeight, orderNumbers}
 use Rattle.model.specs.Sets.{Doses}
 use Rattle.model.specs.Records.{recordSize}
-use Rattle.model.specs.Lists.{Each, total}
+use Rattle.model.specs.Lists.{Along, total}
 use Rattle.model.specs.Orders.{Order}
 use Rattle.model.specs.Answers.{FirstClass, aboveTop, refusal}
 use Rattle.model.specs.Stands.{Stands}
@@ -62,7 +62,7 @@ opensWith stream = 0 < length stream / recordSize → begins stream 0 ≡ true
 -- these are the figures of the stream's orders
 pub record SeasonIn (stream : List ℕ) (s : Season) : Type 0 where
   pub outcomes : List season.Outcome
-  pub each : Each Comes (ordersFrom stream 0 (length stream / recordSize)) outcomes
+  pub each : Along Comes (ordersFrom stream 0 (length stream / recordSize)) outcomes
   pub figures : asSeason s ≡ seasonOf outcomes
 
 -- the figures are those of at most k orders

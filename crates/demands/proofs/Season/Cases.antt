@@ -1,8 +1,8 @@
 -- A row of the table of streams that passes its test is right. Assumes nothing.
 use mathlib.Core.Bool.{Bool, true, false, not, _&&_}
 use mathlib.Core.List.{List, [], _∷_, map}
-use mathlib.Core.Path.{_≡_, refl, ap, ap₂, _∙_, sym, subst}
-use Prim.Native.Nat.{ℕ, zero, suc, _<_}
+use mathlib.Core.Path.{_≡_, refl, ap, _∙_, sym, subst}
+use Prim.Native.Nat.{ℕ, _<_}
 use native.Mathlib.Nat.{eq-zero-or-pos}
 use native.Mathlib.Omega.{arith}
 use mathlib.Core.Logic.{_≢_, inl, inr}
@@ -11,16 +11,16 @@ use lib.Dec.{T, eqb, eqb→eq}
 use lib.ListN.{length, getD}
 use Rattle.model.specs.Limits.{mostBay}
 use Rattle.model.specs.Sets.{Doses, sum}
-use Rattle.model.specs.Lists.{All, Each, beside, ended, gather, total}
+use Rattle.model.specs.Lists.{All, Along, beside, ended, gather, total}
 use Rattle.model.specs.Records.{Reading, pick, read, refused}
 use Rattle.model.specs.Orders.{Order, readOrder}
-use Rattle.model.specs.Classes.{Classes, P, W, classP}
+use Rattle.model.specs.Classes.{Classes, P, W}
 use Rattle.model.specs.Intervals.{fansPresent, settingOf}
 use Rattle.model.specs.Plans.{Class}
 use Rattle.model.specs.Layout.{classAt, classesOf}
 use Rattle.model.specs.Stands.{Stands}
 use Rattle.model.specs.Answers.{Accepts, Answer, Judges, done, refusal}
-use Rattle.model.specs.Season.{AddedUp, AddsUp, Comes, FirstRate, Outcome, Rate, Season, acceptedWith, first-class, no-class, noRate, notAddedUp, readStream, refusedBy, seasonOf}
+use Rattle.model.specs.Season.{AddsUp, Comes, FirstRate, Season, acceptedWith, first-class, no-class, noRate, notAddedUp, readStream, refusedBy, seasonOf}
 use Rattle.model.specs.Cases.{Case, JudgingRight, caseSets, casePlan}
 use Rattle.model.specs.CaseTests.{allBelow, allIn, classTest, doneTest, nothingTest, planTest, pointTest, readingTest, recordsTest, sameAnswer, sameList, sharesTest, slowTest}
 use Rattle.model.specs.SeasonCases.{SeasonCase, SeasonRight, addedTest, caseOutcome, firstIn, judgedTest, sameSeason, season-cases-pass, seasonCases, seasonTest}
@@ -116,7 +116,7 @@ case-comes c t = go (eqb (c .answer .number) 0) refl
         by-records (s .0) (length (c .sets)) (caseSets c) (sets .are) (s .1) (casePlan c) (s .2) (c .classes) (sets .records)
     go false e = by-verdict (right .judged) (eqb-false (c .answer .number) 0 e) (never-ten c t)
 
-cases-come : (cs : List Case) → T (allIn judgedTest cs) → Each Comes (map (λ c. c .order) cs) (map caseOutcome cs)
+cases-come : (cs : List Case) → T (allIn judgedTest cs) → Along Comes (map (λ c. c .order) cs) (map caseOutcome cs)
 unfolding allIn
 cases-come [] t = ended
 cases-come (c ∷ cs) t = beside (case-comes c (and-left (judgedTest c) (allIn judgedTest cs) t)) (cases-come cs (and-right (judgedTest c) (allIn judgedTest cs) t))
@@ -168,7 +168,7 @@ season-row-right c t = record { adds = adds; only = λ x h. adds-up-one h adds }
         let orders-right = and-left (cut && judged) (told && figures) u in
         let figures-right = and-right (cut && judged) (told && figures) u in
         let same = same-list (sameList eqb) (same-list eqb eqb→eq) orders (map (λ k. k .order) (c .orders)) (and-left cut judged orders-right) in
-        let each = subst (λ (l : List (List ℕ)). Each Comes l outcomes) (sym same) (cases-come (c .orders) (and-right cut judged orders-right)) in
+        let each = subst (λ (l : List (List ℕ)). Along Comes l outcomes) (sym same) (cases-come (c .orders) (and-right cut judged orders-right)) in
         subst (AddsUp (c .stream)) (is-row done (seasonOf outcomes) (and-left told figures figures-right) (and-right told figures figures-right)) (AddsUp.adds-up orders e outcomes each)
 
     adds : AddsUp (c .stream) (c .added)

@@ -1,6 +1,6 @@
 -- Each order of a stream counts once, as accepted or under its number; and counts of two lists of orders add up.
 use mathlib.Core.List.{List, [], _∷_, _++_}
-use mathlib.Core.Path.{_≡_, refl, ap, _∙_, sym}
+use mathlib.Core.Path.{_≡_, refl, _∙_}
 use Prim.Native.Nat.{ℕ, _+_, _<_}
 use native.Mathlib.Omega.{arith}
 use borrow.Author.Tests.{eq-eqb, ne-eqb}
@@ -8,7 +8,7 @@ use lib.Dec.{eqb}
 use lib.ListN.{length, getD}
 use Rattle.model.specs.Limits.{orderNumbers}
 use Rattle.model.specs.Sets.{on, sum}
-use Rattle.model.specs.Lists.{Each, beside, ended, gather, total}
+use Rattle.model.specs.Lists.{Along, beside, ended, gather, total}
 use Rattle.model.specs.Season.{Comes, Outcome, ifAccepted, ifRefused, refusedBy}
 use Rattle.model.proofs.Answers.{refuses-open}
 use Rattle.model.proofs.Lists.{gather-at, total-append, total-gather}
@@ -31,7 +31,7 @@ counted-at number l =
     one-term orderNumbers number (λ n. on (eqb n number) 1) l (λ n q ne. rw (ne-eqb n number ne)) ∙ rw (eq-eqb number number refl)
 
 -- each order once
-each-once : {orders : List (List ℕ)} {outcomes : List Outcome} → Each Comes orders outcomes
+each-once : {orders : List (List ℕ)} {outcomes : List Outcome} → Along Comes orders outcomes
     → total ifAccepted outcomes + sum orderNumbers (λ n. total (ifRefused n) outcomes) ≡ length orders
 unfolding total
 each-once ended = omega (arith, sum-zero orderNumbers)
@@ -45,7 +45,7 @@ each-once (beside {m = later} (Comes.refuses a r) h) =
 each-once (beside {m = later} (Comes.accepts o g plan st v t f q) h) =
     omega (arith, sum-congr orderNumbers {f = λ n. 0 + total (ifRefused n) later} {g = λ n. total (ifRefused n) later} (λ n l. omega arith), each-once h)
 
-pub each-counted-once : {orders : List (List ℕ)} {outcomes : List Outcome} → Each Comes orders outcomes
+pub each-counted-once : {orders : List (List ℕ)} {outcomes : List Outcome} → Along Comes orders outcomes
     → total ifAccepted outcomes + total (λ (c : ℕ). c) (counts outcomes) ≡ length orders
 each-counted-once {outcomes = outcomes} h = omega (arith, each-once h, counts-total outcomes)
 

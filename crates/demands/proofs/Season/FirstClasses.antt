@@ -1,5 +1,4 @@
 -- The greatest first class: rates by exact products, the earliest of equals, and the greatest of two lists of orders.
-use mathlib.Core.Bool.{Bool, true, false}
 use mathlib.Core.List.{List, [], _∷_, _++_}
 use mathlib.Core.Logic.{_⊎_, inl, inr}
 use mathlib.Core.Path.{_≡_, refl, ap, _∙_, sym}
@@ -9,14 +8,14 @@ use native.Mathlib.Omega.{arith}
 use borrow.Author.Tests.{le-ltb, lt-ltb}
 use lib.ListN.{length, getD}
 use Rattle.model.specs.Limits.{mostBay}
-use Rattle.model.specs.Lists.{All, Each, also, beside, ended, none}
+use Rattle.model.specs.Lists.{All, Along, also, beside, ended, none}
 use Rattle.model.specs.Orders.{Order}
 use Rattle.model.specs.Season.{Comes, FirstRate, Outcome, Rate, firstOf, first-class, greater, greatestFrom, no-class, noRate, refusedBy}
 use Rattle.model.proofs.FanTime.{weighs}
 use Rattle.model.proofs.Fractions.{compare≤}
 use Rattle.model.proofs.Orders.{Fit, read-fits}
 use Rattle.model.proofs.Windows.{heavy, starts-open}
-use Rattle.model.specs.Intervals.{fansPresent, settingOf}
+use Rattle.model.specs.Intervals.{settingOf}
 
 -- ---- rates, by exact products
 
@@ -65,7 +64,7 @@ first-sound o fit r (no-class z) = none-sound
 first-sound o fit r (first-class A f) =
     record { some-time = starts-open o fit A (f .some); none-or-some = inr (weighs (settingOf o) (heavy o fit) A (f .some)) }
 
-pub firsts-sound : {orders : List (List ℕ)} {outcomes : List Outcome} → Each Comes orders outcomes → All (λ x. Sound (firstOf x)) outcomes
+pub firsts-sound : {orders : List (List ℕ)} {outcomes : List Outcome} → Along Comes orders outcomes → All (λ x. Sound (firstOf x)) outcomes
 firsts-sound ended = none
 firsts-sound (beside (Comes.refuses a r) h) = also none-sound (firsts-sound h)
 firsts-sound (beside {a = order} (Comes.accepts o g plan st v t f q) h) = also (first-sound o (read-fits mostBay order o (g .reads)) f q) (firsts-sound h)

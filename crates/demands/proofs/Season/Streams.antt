@@ -1,6 +1,6 @@
 -- The orders of a stream: one for each F record, and together the whole stream; and of two streams, one behind the other.
-use mathlib.Core.Bool.{Bool, true, false, _&&_, _||_}
-use mathlib.Core.List.{List, [], _∷_, _++_, append-assoc}
+use mathlib.Core.Bool.{Bool, true, false, _||_}
+use mathlib.Core.List.{List, [], _∷_, _++_}
 use mathlib.Core.Logic.{inl, inr}
 use mathlib.Core.Path.{_≡_, refl, ap, ap₂, _∙_, sym}
 use Prim.Native.Nat.{ℕ, zero, suc, _+_, _*_, _-_, _/_, _%_, _<_, _≤_}
@@ -8,11 +8,11 @@ use native.Mathlib.Nat.{eq-zero-or-pos}
 use native.Mathlib.Omega.{arith}
 use borrow.Author.Tests.{eq-eqb, le-leb, ne-eqb}
 use lib.Dec.{T, eqb, eqb→eq, leb, leb→le}
-use lib.ListN.{length, getD, take, drop, take-append-drop, length-append, length-drop, length-take}
+use lib.ListN.{length, getD, drop, take-append-drop, length-append, length-drop}
 use lib.Seq.{drop-append-add, drop-append-le, drop-drop, drop-length, take-append-le}
 use Rattle.model.specs.Limits.{streamRoom}
 use Rattle.model.specs.Sets.{on, sum}
-use Rattle.model.specs.Records.{Reading, fansKind, pick, read, recordAt, recordSize}
+use Rattle.model.specs.Records.{Reading, fansKind, pick, read, recordSize}
 use Rattle.model.specs.Season.{begins, beforeNext, ordersFrom, orderAt, readStream, recordsAt, streamFits}
 use Rattle.model.proofs.Lists.{sum-first}
 use Rattle.model.proofs.Orders.{passed, three}

@@ -4,7 +4,6 @@ use native.Mathlib.Omega.{arith}
 use borrow.Author.Tests.{eq-eqb, ne-eqb}
 use lib.ListN.{length}
 use Rattle.season.proofs.Begins.{begins-is}
-use borrow.Author.Needs.{needs}
 use Rattle.season.proofs.opens.Statement.{statement}
 use Rattle.season.proofs.opens.Tie as tie
 

@@ -1,5 +1,5 @@
 -- `season_in` meets its contract: the orders before a record are added up, and one begins there (Adding).
-use Prim.Native.Nat.{_*_, _+_, _-_, _/_, _<_, _≤_}
+use Prim.Native.Nat.{_+_, _-_, _<_, _≤_}
 use native.Mathlib.Omega.{arith}
 use Rattle.model.specs.Limits.{mostStreamed}
 use Rattle.season.proofs.Adding.{Adding, adding-all, adding-none, adding-order}

@@ -1,5 +1,5 @@
 -- `greater` meets its contract: the second rate exceeds the first by products, or not at all.
-use Prim.Native.Nat.{_*_, _-_, _<_, _≤_}
+use Prim.Native.Nat.{_*_, _-_}
 use native.Mathlib.Omega.{arith}
 use borrow.Author.Tests.{le-ltb, lt-ltb}
 use borrow.Author.Needs.{needs}

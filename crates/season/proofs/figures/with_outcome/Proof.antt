@@ -1,5 +1,4 @@
 -- `with_outcome` meets its contract: by what the order came to.
-use mathlib.Core.Path.{_∙_, ap, sym}
 use Rattle.season.specs.Held.{OutcomeFits, asOutcome}
 use borrow.Author.Needs.{needs}
 use Rattle.season.proofs.figures.with_outcome.Statement.{statement}
