@@ -1,13 +1,14 @@
 -- The season's sheet (document 02, C-15), sentence by sentence, over the answers of adding up a stream. Assumes nothing.
 pub mod Streams
 pub mod FirstClasses
+pub mod OneFans
 pub mod Counted
 pub mod Cases
 use mathlib.Core.Bool.{Bool, true, false, _&&_, _||_}
 use mathlib.Core.Logic.{_↔_, _≢_, _⊎_, inl, inr}
 use mathlib.Core.List.{List, [], _∷_, _++_}
 use mathlib.Core.Path.{_≡_, refl, ap, ap₂, _∙_, subst, sym}
-use Prim.Native.Nat.{ℕ, _+_, _/_, _%_, _≤_, _<_}
+use Prim.Native.Nat.{ℕ, _+_, _*_, _/_, _%_, _≤_, _<_}
 use native.Mathlib.Nat.{eq-zero-or-pos}
 use native.Mathlib.Omega.{arith}
 use borrow.Author.Tests.{eqb-false, leb-false}
@@ -15,7 +16,7 @@ use lib.Dec.{eqb, leb}
 use lib.ListN.{length, getD}
 use Rattle.model.specs.Limits.{mostBay, orderNumbers, streamRoom}
 use Rattle.model.specs.Sets.{Doses, on, sum}
-use Rattle.model.specs.Lists.{Along, beside, ended, total}
+use Rattle.model.specs.Lists.{All, Along, beside, ended, total}
 use Rattle.model.specs.Records.{Reading, pick, read, recordSize, refused}
 use Rattle.model.specs.Orders.{Order}
 use Rattle.model.specs.Classes.{Classes, classP}
@@ -30,9 +31,10 @@ use Rattle.model.proofs.Season.{adds-up-one, classes-time, stands-takes, takes-
 use Rattle.model.proofs.Written.{plan-stands}
 use Rattle.demands.proofs.Demand1.EveryCall.{judges-some, order-decided}
 use Rattle.demands.proofs.Existence.{classes-of, shares-of}
-use Rattle.demands.proofs.Season.Streams.{behindEachOther, fansRecords, joined-reads, opens, order-for-each-fans, orders-whole, short, whole-records}
+use Rattle.demands.proofs.Season.Streams.{behindEachOther, fansRecords, joined-reads, opens, order-for-each-fans, orders-are, orders-whole, short, whole-records}
 use Rattle.demands.proofs.Season.FirstClasses.{Greatest, firsts-sound, greatest-is, greatest-joined, none-sound}
-use Rattle.demands.proofs.Season.Counted.{counts-joined, each-counted-once}
+use Rattle.demands.proofs.Season.Counted.{counts-joined, each-counted-once, none-by-six}
+use Rattle.demands.proofs.Season.OneFans.{orders-one}
 
 -- an answer that is no refusal: the stream's orders, what each comes to, and their figures
 pub record Added (stream : List ℕ) (x : AddedUp) : Type 0 where
@@ -144,6 +146,15 @@ accepted-and-refused-add-up {stream} h z =
 -- "the records from that one on, up to the next F": one behind the other the orders are the stream, so that no record is lost or read twice
 pub orders-are-the-stream : {stream : List ℕ} {x : AddedUp} (a : Added stream x) → behindEachOther (a .orders) ≡ stream
 orders-are-the-stream {stream} a = orders-whole stream (a .orders) (a .reads)
+
+-- each of them has one F record, so that none is refused by 6
+pub never-refused-by-six : {stream : List ℕ} {x : AddedUp} → AddsUp stream x → x .answer .number ≡ 0 → getD (x .season .refused) 6 0 ≡ 0
+unfolding seasonOf
+never-refused-by-six {stream} h z =
+    let a = added h z in
+    let whole : length stream ≡ recordSize * (0 + length stream / recordSize) = omega (arith, whole-records stream (a .orders) (a .reads)) in
+    let one = subst (All (λ order. fansRecords order ≡ 1)) (orders-are stream (a .orders) (a .reads)) (orders-one stream 0 (length stream / recordSize) whole) in
+    ap (λ (s : Season). getD (s .refused) 6 0) (a .is) ∙ none-by-six one (a .each)
 
 -- the greatest first class: none is above it; it is "0 and 1 if there is none", or that of an order, above those of all before it
 pub greatest-first-class : {stream : List ℕ} {x : AddedUp} (a : Added stream x) → Greatest noRate (a .outcomes) (x .season .greatest)

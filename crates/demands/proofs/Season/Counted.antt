@@ -1,6 +1,6 @@
 -- Each order of a stream counts once, as accepted or under its number; and counts of two lists of orders add up.
 use mathlib.Core.List.{List, [], _∷_, _++_}
-use mathlib.Core.Path.{_≡_, refl, _∙_}
+use mathlib.Core.Path.{_≡_, refl, _∙_, sym}
 use Prim.Native.Nat.{ℕ, _+_, _<_}
 use native.Mathlib.Omega.{arith}
 use borrow.Author.Tests.{eq-eqb, ne-eqb}
@@ -8,9 +8,11 @@ use lib.Dec.{eqb}
 use lib.ListN.{length, getD}
 use Rattle.model.specs.Limits.{orderNumbers}
 use Rattle.model.specs.Sets.{on, sum}
-use Rattle.model.specs.Lists.{Along, beside, ended, gather, total}
+use Rattle.model.specs.Lists.{All, Along, also, beside, ended, gather, none, total}
 use Rattle.model.specs.Season.{Comes, Outcome, ifAccepted, ifRefused, refusedBy}
 use Rattle.model.proofs.Answers.{refuses-open}
+use Rattle.demands.proofs.Season.OneFans.{never-six}
+use Rattle.demands.proofs.Season.Streams.{fansRecords}
 use Rattle.model.proofs.Lists.{gather-at, total-append, total-gather}
 use Rattle.model.proofs.Sums.{one-term, sum-add, sum-congr, sum-zero}
 
@@ -59,3 +61,14 @@ counts-joined xs ys n l =
       gather-at orderNumbers (λ n. total (ifRefused n) ys) 0 n l,
       total-append (ifRefused n) xs ys,
     )
+
+-- orders with one F record each: none is counted under 6
+by-six : {orders : List (List ℕ)} {outcomes : List Outcome} → All (λ order. fansRecords order ≡ 1) orders → Along Comes orders outcomes → total (ifRefused 6) outcomes ≡ 0
+unfolding total
+by-six none ended = refl
+by-six (also one all) (beside (Comes.refuses a r) h) = rw (ne-eqb 6 (a .number) (λ e. never-six one r (sym e))) (omega (arith, by-six all h))
+by-six (also one all) (beside (Comes.accepts o g plan st v t f q) h) = omega (arith, by-six all h)
+
+pub none-by-six : {orders : List (List ℕ)} {outcomes : List Outcome} → All (λ order. fansRecords order ≡ 1) orders → Along Comes orders outcomes
+    → getD (counts outcomes) 6 0 ≡ 0
+none-by-six {outcomes = outcomes} one h = gather-at orderNumbers (λ n. total (ifRefused n) outcomes) 0 6 (omega arith) ∙ by-six one h

@@ -130,7 +130,7 @@ module _ (s t : List ℕ) (n : ℕ) (long : length s ≡ recordSize * n) where
   begins-behind : (j : ℕ) → begins (s ++ t) (n + j) ≡ begins t j
   begins-behind j = rw (behind j)
 
-  begins-inside : (i : ℕ) → i < n → begins (s ++ t) i ≡ begins s i
+  pub begins-inside : (i : ℕ) → i < n → begins (s ++ t) i ≡ begins s i
   begins-inside i l = ap (λ (r : List ℕ). eqb (getD r 0 0) fansKind) (inside i 1 (omega arith))
 
   next-behind : (j m : ℕ) → beforeNext (s ++ t) (n + j) m ≡ beforeNext t j m
