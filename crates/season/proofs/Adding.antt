@@ -15,7 +15,7 @@ use Rattle.model.specs.Season.{AddsUp, Comes, Outcome, beforeNext, begins, notA
 use Rattle.model.specs.Answers.{done, refusal}
 use Rattle.model.proofs.Lists.{Along-append}
 use Rattle.season.specs.Adding.{withOutcome}
-use Rattle.season.specs.Held.{OutcomeFits, SeasonFits, SeasonIn, asAddedUp, asOutcome, asSeason, opensWith}
+use Rattle.season.specs.Held.{OutcomeFits, SeasonFits, SeasonIn, asAddedUp, asOutcome, asSeason, OpensWithFans}
 use Rattle.season.specs.declared.outcome.Outcome.{Outcome as Held}
 use Rattle.season.specs.declared.figures.Season.{Season}
 use Rattle.season.specs.declared.AddedUp.{AddedUp}
@@ -35,7 +35,7 @@ pub record Adding (stream : List ℕ) (n i : ℕ) (s : Season) : Type 0 where
   pub fits : SeasonFits i s
 
 -- no record is passed yet
-pub adding-none : {stream : List ℕ} {n : ℕ} {s : Season} → n ≡ length stream / recordSize → opensWith stream → asSeason s ≡ seasonOf [] → Adding stream n 0 s
+pub adding-none : {stream : List ℕ} {n : ℕ} {s : Season} → n ≡ length stream / recordSize → OpensWithFans stream → asSeason s ≡ seasonOf [] → Adding stream n 0 s
 adding-none {stream} {n} {s} e h z = record {
   few = omega arith;
   count = e;
@@ -116,7 +116,7 @@ module _ (stream : List ℕ) where
       third false y z e = refl
 
   -- where there is a record, the first is an F
-  pub opened : (eqb (length stream) 0 || begins stream 0) ≡ true → opensWith stream
+  pub opened : (eqb (length stream) 0 || begins stream 0) ≡ true → OpensWithFans stream
   opened e l = rw (ne-eqb (length stream) 0 (λ z. omega arith)) at e
 
   -- and the figures of all orders

@@ -56,8 +56,8 @@ pub data OrderComes (o : Order) : season.Outcome → Type 0 where
 -- ---- the stream
 
 -- the first record, if there is one, is an F
-abbrev pub opensWith : List ℕ → Type 0
-opensWith stream = 0 < length stream / recordSize → begins stream 0 ≡ true
+abbrev pub OpensWithFans : List ℕ → Type 0
+OpensWithFans stream = 0 < length stream / recordSize → begins stream 0 ≡ true
 
 -- these are the figures of the stream's orders
 pub record SeasonIn (stream : List ℕ) (s : Season) : Type 0 where

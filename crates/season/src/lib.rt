@@ -21,7 +21,7 @@ ghost use Rattle.model.specs.Limits.{streamRoom};
 ghost use Rattle.model.specs.Records.{recordSize};
 ghost use Rattle.model.specs.Season.{begins, beforeNext, AddsUp, notAddedUp};
 ghost use Rattle.model.specs.Answers.{refusal};
-ghost use Rattle.season.specs.Held.{asAddedUp, opensWith, SeasonIn};
+ghost use Rattle.season.specs.Held.{asAddedUp, OpensWithFans, SeasonIn};
 
 // 16, or 0 and the season's figures. "Fields not meant are 0".
 pub struct AddedUp {
@@ -35,7 +35,7 @@ pub struct AddedUp {
     pub time: u32,
 }
 
-// The first F from record i on, of n records; n where none is.
+// The first F from a record on, of n records; n where none is.
 fn next_fans(stream: &[u8], from: usize, n: usize) -> usize
     requires { ⌜ (n ≡ length (now stream) / recordSize) × (from ≤ n) ⌝ }
     ensures { λ i. ⌜ i ≡ from + beforeNext (now (stream .entry)) from (n - from) ⌝ }
@@ -52,7 +52,7 @@ fn next_fans(stream: &[u8], from: usize, n: usize) -> usize
 
 // "the records from that one on, up to the next F, are read as an order of their own": a part of the stream is handed to the order reader.
 fn season_in(stream: &[u8]) -> Season
-    requires { ⌜ (length (now stream) ≤ streamRoom) × opensWith (now stream) ⌝ }
+    requires { ⌜ (length (now stream) ≤ streamRoom) × OpensWithFans (now stream) ⌝ }
     ensures { λ s. ⌜ SeasonIn (now (stream .entry)) s ⌝ }
 {
     let n = record_count(stream);
