@@ -29,7 +29,8 @@ use Rattle.model.proofs.Sets.{and-left, and-right, or-elim, Alike, alike-sub, a
 use Rattle.model.proofs.FanTime.{P-alike}
 use Rattle.model.proofs.NextClass.{next-unique}
 use Rattle.model.proofs.Sequence.{classes-unique, count-unique}
-use Rattle.model.proofs.Orders.{Fit, three, no-refusal, read-fits}
+use Rattle.model.proofs.Orders.{Fit, three, read-fits}
+use Rattle.model.proofs.Readings.{no-refusal}
 use Rattle.model.proofs.Lists.{length-singles}
 use Rattle.model.proofs.Written.{plan-stands, plan-reads}
 use Rattle.model.proofs.Plans.{slots-read}

@@ -26,7 +26,8 @@ use Rattle.model.specs.Answers.{Accepts, Answer, Judges, refusal}
 use Rattle.model.specs.Season.{AddedUp, AddsUp, Comes, begins, ordersFrom, streamFits, FirstRate, Outcome, Rate, Season, Takes, acceptedWith, first-class, no-class, greater, gramsOf, ifAccepted, noRate, notAddedUp, readStream, refusedBy, seasonOf, secondsOf}
 use Rattle.model.proofs.Answers.{first-next, no-doses, one-order, refused-not-accepted}
 use Rattle.model.proofs.Lists.{Along-append, total-append}
-use Rattle.model.proofs.Orders.{no-refusal, read-fits}
+use Rattle.model.proofs.Orders.{read-fits}
+use Rattle.model.proofs.Readings.{no-refusal}
 use Rattle.model.proofs.Season.{adds-up-one, classes-time, stands-takes, takes-all}
 use Rattle.model.proofs.Written.{plan-stands}
 use Rattle.demands.proofs.Demand1.EveryCall.{judges-some, order-decided}

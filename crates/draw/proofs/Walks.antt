@@ -19,7 +19,7 @@ use Rattle.model.specs.Stands.{starts}
 use Rattle.model.specs.Line.{unfed, fedBy, unitsBefore, timeOf, feeds, startsBefore, earlier, earliest, stateBy, fedAt}
 use Rattle.model.specs.Line as line
 use Rattle.model.proofs.Fractions.{compare≤}
-use Rattle.model.proofs.Orders.{no-refusal, passed, went-on}
+use Rattle.model.proofs.Readings.{no-refusal, passed, went-on}
 use Rattle.records.specs.Plan.{kindAt, slotIn}
 use Rattle.draw.specs.Drawing.{ownSlot, slotUnits, keptOf, earlierKept, fedFrom, stateKept, Drawable}
 use Rattle.draw.specs.declared.Kept.{Kept}

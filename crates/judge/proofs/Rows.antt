@@ -11,7 +11,7 @@ use lib.ListN.{List·getD-append, List·getD-map, getD, length, length-append, l
 use lib.Seq.{getD-append-add}
 use Rattle.model.specs.Records.{recordSize, blankAt, classParts, pick, read, readAll, readFrom, recordAt, refused, slotParts}
 use Rattle.model.specs.Plans.{Class, PlanRecord, Slot, classOf, classRecord, planOf, planRecordOf, planRecords, slotOf, slotRecord}
-use Rattle.model.proofs.Orders.{no-refusal, passed, went-on}
+use Rattle.model.proofs.Readings.{no-refusal, passed, went-on}
 use Rattle.judge_clauses.specs.Tests.{ClassRow, SlotRow}
 
 -- what stands for a record past the last

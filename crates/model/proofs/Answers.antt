@@ -25,7 +25,7 @@ use Rattle.model.proofs.Sums.{sum-congr}
 use Rattle.model.proofs.FanTime.{P-alike, openFans-alike}
 use Rattle.model.proofs.NextClass.{next-unique}
 use Rattle.model.proofs.Sequence.{classes-unique, free-alike}
-use Rattle.model.proofs.Orders.{no-refusal}
+use Rattle.model.proofs.Readings.{no-refusal}
 use Rattle.model.proofs.Given.{given-exactly, row-number}
 
 -- ---- the order's answer

@@ -1,25 +1,24 @@
 -- Refusals 2 to 8 and 15 as the table of "What comes back" has them, "given exactly when": a row for each, with its place, and what comes before it
 -- passed. `last` is the last bay that is open.
-use mathlib.Core.Bool.{Bool, true, false, not, _&&_, _||_}
+use mathlib.Core.Bool.{Bool, true, false, not, _&&_}
 use mathlib.Core.Logic.{_↔_, _≢_, _⊎_, inl, inr}
 use mathlib.Core.Path.{_≡_, refl, sym, ap, _∙_}
-use mathlib.Core.List.{List, [], _∷_, _++_, append-assoc, append-nil}
-use Prim.Native.Nat.{ℕ, zero, suc, _+_, _/_, _%_, _≤_, _<_}
-use native.Mathlib.Nat.{eq-or-lt-of-le, zero-add}
+use mathlib.Core.List.{List, []}
+use Prim.Native.Nat.{ℕ, zero, _+_, _/_, _%_, _≤_, _<_}
+use native.Mathlib.Nat.{zero-add}
 use native.Mathlib.Omega.{arith}
 use borrow.Author.Tests.{eq-eqb, eqb-false, le-leb, lt-leb, ne-eqb}
 use lib.Dec.{T, T-not, eqb, eqb-refl, eqb→eq, leb, leb→le, nleb→lt}
 use lib.Ieee.Bits.{is-false, is-true}
-use lib.ListN.{length, getD, length-append, List·getD-append}
-use lib.Seq.{getD-append-seam}
+use lib.ListN.{length, getD}
 use Rattle.model.specs.Limits.{mostBay, mostDoses, orderRoom}
 use Rattle.model.specs.Records.{recordSize, pick, Reading, read, refused, andThen, doseKind, fansParts, doseParts, blankAt, recordAt, readAll}
-use Rattle.model.specs.Orders.{Dose, noDose, Entry, fansEntry, doseEntry, fansOf, doseOf, fansFit, doseFits, bayOpen, checked, entryOf, fansIn, dosesIn, apart, clash, clashesAny, noClash, orderIn, restOf, orderOf, readOrder}
+use Rattle.model.specs.Orders.{Dose, Entry, fansOf, doseOf, fansFit, doseFits, bayOpen, checked, entryOf, fansIn, dosesIn, noClash, orderIn, restOf, orderOf, readOrder}
 use Rattle.model.proofs.Sums.{last}
-use Rattle.model.proofs.Fractions.{compare≤}
 use Rattle.model.proofs.Orders.{bay-most}
+use Rattle.model.proofs.Rests.{FirstOverlap, NoOverlaps, OverlapsEarlier, clash-refuses, first-clash, noEntry}
 use Rattle.model.proofs.Readings.{First, Listed, Says, refusal-says, says-pick, says-then, walk-read, walk-refused, walk-says}
-use Rattle.model.proofs.Sets.{and-left, and-right, or-elim, or-left, or-right}
+use Rattle.model.proofs.Sets.{and-left, and-right}
 
 -- ---- the rows of one record, r its bytes; byte 0 is its kind
 
@@ -65,32 +64,11 @@ pub record Reached (last : ℕ) (order : List ℕ) (i : ℕ) : Type 0 where
   pub there : i < length order / recordSize
   pub earlier : (k : ℕ) → k < i → (e : Entry) × (entryOf last (recordAt order k) k ≡ read e)
 
--- what stands for a record past the last
-abbrev pub noEntry : Entry
-noEntry = doseEntry noDose
-
 -- all records are read: record k says what entry k is
 pub record Entries (last : ℕ) (order : List ℕ) (es : List Entry) : Type 0 where
   pub sized : Sized order
   pub count : length es ≡ length order / recordSize
   pub each : (k : ℕ) → k < length es → entryOf last (recordAt order k) k ≡ read (getD es k noEntry)
-
--- "two doses of one bay with overlapping windows": each opens before the other has ended and rested; with no rest "touching is allowed"
-pub record Overlap (rest : ℕ) (x y : Dose) : Type 0 where
-  pub bay : x .bay ≡ y .bay
-  pub opens : x .release < y .deadline + rest
-  pub closes : y .release < x .deadline + rest
-
--- record i is a "D that overlaps an earlier one"
-pub record OverlapsEarlier (rest : ℕ) (es : List Entry) (i : ℕ) : Type 0 where
-  pub there : i < length es
-  pub dose : Dose
-  pub is : getD es i noEntry ≡ doseEntry dose
-  pub earlier : ℕ
-  pub before : earlier < i
-  pub other : Dose
-  pub was : getD es earlier noEntry ≡ doseEntry other
-  pub overlap : Overlap rest dose other
 
 -- the table: number and place
 pub data Given (last : ℕ) (order : List ℕ) : ℕ → ℕ → Type 0 where
@@ -155,138 +133,6 @@ module _ (last : ℕ) (r : List ℕ) (i : ℕ) where
     refusal-says _ AtRecord (entryOf last r i) entry-says number place,
     λ row. row-refuses number (row .0) ∙ ap (λ (k : ℕ). refused number k) (sym (row .1)),
   )
-
--- ---- 8, for any length of rest
-
-doses-append : (front es : List Entry) → dosesIn (front ++ es) ≡ dosesIn front ++ dosesIn es
-unfolding dosesIn
-doses-append [] es = refl
-doses-append (fansEntry f ∷ front) es = doses-append front es
-doses-append (doseEntry d ∷ front) es = ap (λ (l : List Dose). d ∷ l) (doses-append front es)
-
-module _ (rest : ℕ) where
-  -- the test of two doses
-  clash-overlap : (x y : Dose) → T (clash rest x y) → Overlap rest x y
-  clash-overlap x y t =
-      let bays = eqb (x .bay) (y .bay) in
-      let gap = apart rest x y in
-      let near = neither (leb (x .deadline + rest) (y .release)) _ (and-right bays (not gap) t) in
-      record {
-        bay = eqb→eq _ _ (and-left bays (not gap) t);
-        opens = nleb→lt (y .deadline + rest) (x .release) (near .1);
-        closes = nleb→lt (x .deadline + rest) (y .release) (near .0);
-      }
-    where
-      neither : (a b : Bool) → T (not (a || b)) → T (not a) × T (not b)
-      neither false b u = (tt, u)
-
-  overlap-clash : (x y : Dose) → Overlap rest x y → T (clash rest x y)
-  overlap-clash x y h =
-      rw (eq-eqb (x .bay) (y .bay) (h .bay), lt-leb (x .deadline + rest) (y .release) (h .closes), lt-leb (y .deadline + rest) (x .release) (h .opens)) tt
-
-  -- a dose that clashes with one of the records in front
-  clashes-with : (d : Dose) (front : List Entry) → T (clashesAny rest d (dosesIn front))
-      → (h : ℕ) × (h < length front) × (e : Dose) × (getD front h noEntry ≡ doseEntry e) × Overlap rest d e
-  unfolding dosesIn clashesAny
-  clashes-with d (fansEntry f ∷ front) t = let r = clashes-with d front t in (suc (r .0), omega (arith, r .1), r .2, r .3, r .4)
-  clashes-with d (doseEntry e ∷ front) t =
-      let later = clashes-with d front in
-      or-elim (clash rest d e) (clashesAny rest d (dosesIn front)) t (λ u. (0, omega arith, e, refl, clash-overlap d e u))
-      (λ u. let r = later u in (suc (r .0), omega (arith, r .1), r .2, r .3, r .4))
-
-  with-clashes : (d : Dose) (front : List Entry) (h : ℕ) (e : Dose) → h < length front → getD front h noEntry ≡ doseEntry e → Overlap rest d e
-      → T (clashesAny rest d (dosesIn front))
-  unfolding dosesIn clashesAny
-  with-clashes d [] h e l g o = absurd (omega arith)
-  with-clashes d (fansEntry f ∷ front) zero e l g o = let z : _≡_ {A = ℕ} 0 1 = cc in absurd (omega arith)
-  with-clashes d (fansEntry f ∷ front) (suc h) e l g o = with-clashes d front h e (omega arith) g o
-  with-clashes d (doseEntry x ∷ front) zero e l g o =
-      let same : x ≡ e = cc in or-left (clash rest d x) (clashesAny rest d (dosesIn front)) (rw same (overlap-clash d e o))
-  with-clashes d (doseEntry x ∷ front) (suc h) e l g o =
-      or-right (clash rest d x) (clashesAny rest d (dosesIn front)) (with-clashes d front h e (omega arith) g o)
-
-  module _ (all : List Entry) where
-    -- no record overlaps an earlier one
-    abbrev NoOverlaps : List Dose → Type 0
-    NoOverlaps ds = (k : ℕ) → OverlapsEarlier rest all k → ⊥
-
-    -- one is the first that does
-    abbrev FirstOverlap : ℕ → ℕ → Type 0
-    FirstOverlap number place = (number ≡ 8) × OverlapsEarlier rest all place × ((k : ℕ) → k < place → OverlapsEarlier rest all k → ⊥)
-
-    -- record i, with the records in front of it and behind it
-    module _ (front es : List Entry) (e : Entry) (i : ℕ) (a : all ≡ front ++ e ∷ es) (l : i ≡ length front) where
-      at-seam : getD all i noEntry ≡ e
-      at-seam = rw (a, l) (getD-append-seam front e es noEntry)
-
-      in-front : (h : ℕ) → h < i → getD all h noEntry ≡ getD front h noEntry
-      in-front h q = ap (λ (m : List Entry). getD m h noEntry) a ∙ List·getD-append front (e ∷ es) noEntry h (omega arith)
-
-      regroup : all ≡ (front ++ e ∷ []) ++ es
-      regroup = a ∙ sym (append-assoc front (e ∷ []) es)
-
-      one-longer : suc i ≡ length (front ++ e ∷ [])
-      one-longer = omega (arith, length-append front (e ∷ []))
-
-      none-more : ((k : ℕ) → k < i → OverlapsEarlier rest all k → ⊥) → (OverlapsEarlier rest all i → ⊥) → (k : ℕ) → k < suc i → OverlapsEarlier rest all k → ⊥
-      none-more none here k q o = elim (last q) [ inl z ↦ here (rw z at o) | inr m ↦ none k m o ]
-
-    clash-says : (es front : List Entry) (earlier : List Dose) (i : ℕ) → all ≡ front ++ es → earlier ≡ dosesIn front → i ≡ length front
-        → ((k : ℕ) → k < i → OverlapsEarlier rest all k → ⊥) → Says (noClash rest earlier i es) NoOverlaps FirstOverlap
-    unfolding noClash dosesIn
-    clash-says [] front earlier i a d l none = λ k o. none k (omega (arith, o .there, ap length a, length-append front [])) o
-    clash-says (fansEntry f ∷ es) front earlier i a d l none =
-        let e = fansEntry f in
-        clash-says es (front ++ e ∷ []) earlier (suc i) (regroup front es e i a l) (d ∙ sym (append-nil (dosesIn front)) ∙ sym (doses-append front (e ∷ [])))
-        (one-longer front es e i a l) (none-more front es e i a l none no-dose)
-      where
-        no-dose : OverlapsEarlier rest all i → ⊥
-        no-dose o =
-            let q = at-seam front es (fansEntry f) i a l in
-            let g = o .is in
-            let z : _≡_ {A = ℕ} 0 1 = cc in omega arith
-    clash-says (doseEntry x ∷ es) front earlier i a d l none =
-        let e = doseEntry x in
-        let later : (OverlapsEarlier rest all i → ⊥) → Says (noClash rest (earlier ++ x ∷ []) (suc i) es) NoOverlaps FirstOverlap = λ free. clash-says es (front ++ e ∷ []) (earlier ++ x ∷ []) (suc i) (regroup front es e i a l)
-        (ap (λ (m : List Dose). m ++ x ∷ []) d ∙ sym (doses-append front (e ∷ []))) (one-longer front es e i a l) (none-more front es e i a l none free) in
-        says-pick NoOverlaps FirstOverlap (clashesAny rest x earlier) _ _ (λ t. (refl, overlaps (rw d at t), none)) (λ t. later (λ o. T-not (clashesAny rest x earlier) t (rw d (clashing o))))
-      where
-        overlaps : T (clashesAny rest x (dosesIn front)) → OverlapsEarlier rest all i
-        overlaps t =
-            let r = clashes-with x front t in
-            record {
-              there = omega (arith, ap length a, length-append front (doseEntry x ∷ es));
-              dose = x;
-              is = at-seam front es (doseEntry x) i a l;
-              earlier = r .0;
-              before = omega (arith, r .1);
-              other = r .2;
-              was = in-front front es (doseEntry x) i a l (r .0) (omega (arith, r .1)) ∙ r .3;
-              overlap = r .4;
-            }
-
-        clashing : OverlapsEarlier rest all i → T (clashesAny rest x (dosesIn front))
-        clashing o =
-            let q = at-seam front es (doseEntry x) i a l in
-            let g = o .is in
-            let same : o .dose ≡ x = cc in
-            with-clashes x front (o .earlier) (o .other) (omega (arith, o .before)) (sym (in-front front es (doseEntry x) i a l (o .earlier) (o .before)) ∙ o .was)
-            (rw same at (o .overlap))
-
-  -- 8 is given for the first, and is not where there is none
-  first-clash : (es : List Entry) → Says (noClash rest [] 0 es) (NoOverlaps es) (FirstOverlap es)
-  unfolding dosesIn
-  first-clash es = clash-says es es [] [] 0 refl refl refl (λ k l. absurd (omega arith))
-
-  clash-refuses : (es : List Entry) (i : ℕ) → OverlapsEarlier rest es i → ((k : ℕ) → k < i → OverlapsEarlier rest es k → ⊥) → noClash rest [] 0 es ≡ refused 8 i
-  clash-refuses es i o none = go (noClash rest [] 0 es) (first-clash es)
-    where
-      go : (x : Reading (List Dose)) → Says x (NoOverlaps es) (FirstOverlap es) → x ≡ refused 8 i
-      go (read ds) s = absurd (s i o)
-      go (refused number place) s = elim (compare≤ place i) [
-        | inl h ↦ elim (eq-or-lt-of-le h) [ inl e ↦ let n = s .0 in cc | inr q ↦ absurd (none place q (s .1)) ]
-        | inr q ↦ absurd (s .2 i q o)
-      ]
 
 -- ---- all rows
 

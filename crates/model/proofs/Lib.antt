@@ -12,8 +12,9 @@ pub mod Cells
 pub mod Moments
 pub mod Amounts
 pub mod Certificate
-pub mod Orders
 pub mod Readings
+pub mod Rests
+pub mod Orders
 pub mod Given
 pub mod Intervals
 pub mod Lists

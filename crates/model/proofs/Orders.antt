@@ -1,52 +1,20 @@
 -- What is known of an order that was read: every field is in its range, every bay is open, and windows of one bay are apart. Assumes nothing.
-use mathlib.Core.Path.{_≡_, refl, sym, ap, _∙_}
-use mathlib.Core.Bool.{Bool, true, false, not, _&&_, _||_}
-use mathlib.Core.Logic.{_⊎_, inl, inr}
-use mathlib.Core.List.{List, [], _∷_, _++_, append-assoc, append-nil}
-use Prim.Native.Nat.{ℕ, zero, suc, _+_, _/_, _%_, _≤_, _<_}
+use mathlib.Core.Path.{_≡_, refl, ap, _∙_}
+use mathlib.Core.Bool.{Bool, true, false, _&&_}
+use mathlib.Core.Logic.{_⊎_}
+use mathlib.Core.List.{List, [], _∷_}
+use Prim.Native.Nat.{ℕ, _+_, _/_, _%_, _≤_, _<_}
 use native.Mathlib.Omega.{arith}
-use lib.Dec.{T, eqb, leb, leb→le, eqb→eq, eqb-refl}
+use lib.Dec.{T, eqb, leb, leb→le, eqb→eq}
 use lib.ListN.{length, getD}
 use Rattle.model.specs.Limits.{lastRelease, mostBay, mostDoses, mostFans, mostGrams, mostTop, orderRoom, week}
-use Rattle.model.specs.Lists.{All, none, also, Pairs, lone, then}
-use Rattle.model.specs.Records.{recordSize, pick, within, Reading, read, refused, andThen, fansParts, doseParts, blankAt, recordAt, readFrom, readAll}
-use Rattle.model.specs.Orders.{Fans, Dose, Order, noDose, doseAt, Entry, fansEntry, doseEntry, fansOf, doseOf, fansFit, doseFits, bayOpen, checked, entryOf, fansIn, dosesIn, apart, clash, clashesAny, noClash, orderWith, orderIn, restOf, orderOf, readOrder}
-use Rattle.model.proofs.Sets.{and-left, and-right, or-elim}
-use Rattle.model.proofs.Lists.{All-at, Pairs-append, Pairs-at}
-
--- ---- a reading that did not refuse
-
-module _ {A : Type 0} where
-  -- a refusal is no reading
-  pub no-refusal : (number place : ℕ) (a : A) → _≡_ {A = Reading A} (refused number place) (read a) → ⊥
-  no-refusal number place a e = let z : _≡_ {A = ℕ} 0 1 = cc in omega arith
-
-  -- a test in front held
-  pub passed : (b : Bool) (x : Reading A) (number place : ℕ) (a : A) → pick b x (refused number place) ≡ read a → T b × (x ≡ read a)
-  passed true x number place a e = (tt, e)
-  passed false x number place a e = absurd (no-refusal number place a e)
-
-  -- and so did the check before
-  pub went-on : {B : Type 0} (x : Reading B) (f : B → Reading A) (a : A) → andThen x f ≡ read a → (b : B) × (x ≡ read b) × (f b ≡ read a)
-  went-on (read b) f a e = (b, refl, e)
-  went-on (refused number place) f a e = absurd (no-refusal number place a e)
-
--- what holds of each record that is read holds of all
-pub all-read : {A : Type 0} (P : A → Type 0) (each : List ℕ → ℕ → Reading A) → ((r : List ℕ) (i : ℕ) (a : A) → each r i ≡ read a → P a)
-    → (bytes : List ℕ) (i n : ℕ) (l : List A) → readFrom each bytes i n ≡ read l → All P l
-unfolding readFrom
-all-read P each h bytes i zero l e = rw (same-read e) none
-  where
-    same-read : read [] ≡ read l → l ≡ []
-    same-read q = cc
-all-read P each h bytes i (suc n) l e =
-    let r = went-on (each (recordAt bytes i) i) _ l e in
-    let s = went-on (readFrom each bytes (suc i) n) _ l (r .2) in
-    let tail = all-read P each h bytes (suc i) n (s .0) (s .1) in
-    rw (same-read (r .0) (s .0) (s .2)) (also (h (recordAt bytes i) i (r .0) (r .1)) tail)
-  where
-    same-read : (a : _) (rest : _) → read (a ∷ rest) ≡ read l → l ≡ a ∷ rest
-    same-read a rest q = cc
+use Rattle.model.specs.Lists.{All, none, also, Pairs, lone}
+use Rattle.model.specs.Records.{recordSize, pick, within, Reading, read, refused, fansParts, doseParts, blankAt, readAll}
+use Rattle.model.specs.Orders.{Fans, Dose, Order, noDose, doseAt, Entry, fansEntry, doseEntry, fansOf, doseOf, fansFit, doseFits, bayOpen, checked, entryOf, fansIn, dosesIn, noClash, orderWith, orderIn, restOf, orderOf, readOrder}
+use Rattle.model.proofs.Sets.{and-left, and-right}
+use Rattle.model.proofs.Readings.{passed, went-on, all-read}
+use Rattle.model.proofs.Rests.{NoClash, apart-windows, clear, doses-read}
+use Rattle.model.proofs.Lists.{All-at, Pairs-at}
 
 -- ---- one record
 
@@ -94,57 +62,6 @@ unfolding dosesIn EntryFits
 doses-fit last [] none = none
 doses-fit last (fansEntry f ∷ es) (also p a) = doses-fit last es a
 doses-fit last (doseEntry d ∷ es) (also p a) = also p (doses-fit last es a)
-
--- ---- windows of one bay, for any length of rest
-
-module _ (rest : ℕ) where
-  -- the doses that do not clash are all doses
-  doses-read : (earlier : List Dose) (i : ℕ) (es : List Entry) (ds : List Dose) → noClash rest earlier i es ≡ read ds → ds ≡ earlier ++ dosesIn es
-  unfolding noClash dosesIn
-  doses-read earlier i [] ds e = let same : ds ≡ earlier = cc in same ∙ sym (append-nil earlier)
-  doses-read earlier i (fansEntry f ∷ es) ds e = doses-read earlier (suc i) es ds e
-  doses-read earlier i (doseEntry d ∷ es) ds e =
-      doses-read (earlier ++ d ∷ []) (suc i) es ds (free (clashesAny rest d earlier) e) ∙ append-assoc earlier (d ∷ []) (dosesIn es)
-    where
-      free : (b : Bool) {x : Reading (List Dose)} → pick b (refused 8 i) x ≡ read ds → x ≡ read ds
-      free true q = absurd (no-refusal 8 i ds q)
-      free false q = q
-
-  -- a dose does not clash with an earlier one
-  abbrev NoClash : Dose → Dose → Type 0
-  NoClash x y = T (not (clash rest y x))
-
-  no-clashes : (d : Dose) (l : List Dose) → T (not (clashesAny rest d l)) → All (λ x. All (NoClash x) (d ∷ [])) l
-  unfolding clashesAny
-  no-clashes d [] t = none
-  no-clashes d (x ∷ l) t = let r = neither (clash rest d x) (clashesAny rest d l) t in also (also (r .0) none) (no-clashes d l (r .1))
-    where
-      neither : (a b : Bool) → T (not (a || b)) → T (not a) × T (not b)
-      neither false b u = (tt, u)
-
-  clear : (earlier : List Dose) (i : ℕ) (es : List Entry) (ds : List Dose) → Pairs NoClash earlier → noClash rest earlier i es ≡ read ds
-      → Pairs NoClash ds
-  unfolding noClash
-  clear earlier i [] ds h e = let same : ds ≡ earlier = cc in rw same h
-  clear earlier i (fansEntry f ∷ es) ds h e = clear earlier (suc i) es ds h e
-  clear earlier i (doseEntry d ∷ es) ds h e =
-      let r = past (clashesAny rest d earlier) e in
-      clear (earlier ++ d ∷ []) (suc i) es ds (Pairs-append h (then none lone) (no-clashes d earlier (r .0))) (r .1)
-    where
-      past : (b : Bool) {x : Reading (List Dose)} → pick b (refused 8 i) x ≡ read ds → T (not b) × (x ≡ read ds)
-      past true q = absurd (no-refusal 8 i ds q)
-      past false q = (tt, q)
-
-  -- two doses of one bay that do not clash have the rest between their windows
-  apart-windows : (x y : Dose) → NoClash x y → x .bay ≡ y .bay → (x .deadline + rest ≤ y .release) ⊎ (y .deadline + rest ≤ x .release)
-  apart-windows x y t e =
-      let same : T (eqb (y .bay) (x .bay)) = rw (← e) (eqb-refl (x .bay)) in
-      let gap = yes (eqb (y .bay) (x .bay)) (apart rest y x) same t in
-      or-elim (leb (y .deadline + rest) (x .release)) (leb (x .deadline + rest) (y .release)) gap
-      (λ u. inr (leb→le (y .deadline + rest) (x .release) u)) (λ u. inl (leb→le (x .deadline + rest) (y .release) u))
-    where
-      yes : (a b : Bool) → T a → T (not (a && not b)) → T b
-      yes true true s u = tt
 
 -- ---- the order
 

@@ -2,7 +2,7 @@
 use mathlib.Core.Bool.{Bool, true, false, not}
 use mathlib.Core.Logic.{inl, inr}
 use mathlib.Core.Path.{_≡_, refl, sym, ap, subst, _∙_}
-use mathlib.Core.List.{List, _∷_}
+use mathlib.Core.List.{List, [], _∷_}
 use Prim.Native.Nat.{ℕ, zero, suc, _+_, _<_}
 use native.Mathlib.Nat.{add-zero, eq-or-lt-of-le}
 use native.Mathlib.Omega.{arith}
@@ -10,8 +10,44 @@ use lib.Dec.{T}
 use lib.ListN.{length, getD}
 use lib.Seq.{ext-getD}
 use Rattle.model.specs.Records.{pick, Reading, read, refused, andThen, recordAt, readFrom}
+use Rattle.model.specs.Lists.{All, none, also}
 use Rattle.model.proofs.Fractions.{compare≤}
-use Rattle.model.proofs.Orders.{no-refusal}
+
+-- ---- a reading that did not refuse
+
+module _ {A : Type 0} where
+  -- a refusal is no reading
+  pub no-refusal : (number place : ℕ) (a : A) → _≡_ {A = Reading A} (refused number place) (read a) → ⊥
+  no-refusal number place a e = let z : _≡_ {A = ℕ} 0 1 = cc in omega arith
+
+  -- a test in front held
+  pub passed : (b : Bool) (x : Reading A) (number place : ℕ) (a : A) → pick b x (refused number place) ≡ read a → T b × (x ≡ read a)
+  passed true x number place a e = (tt, e)
+  passed false x number place a e = absurd (no-refusal number place a e)
+
+  -- and so did the check before
+  pub went-on : {B : Type 0} (x : Reading B) (f : B → Reading A) (a : A) → andThen x f ≡ read a → (b : B) × (x ≡ read b) × (f b ≡ read a)
+  went-on (read b) f a e = (b, refl, e)
+  went-on (refused number place) f a e = absurd (no-refusal number place a e)
+
+-- what holds of each record that is read holds of all
+pub all-read : {A : Type 0} (P : A → Type 0) (each : List ℕ → ℕ → Reading A) → ((r : List ℕ) (i : ℕ) (a : A) → each r i ≡ read a → P a)
+    → (bytes : List ℕ) (i n : ℕ) (l : List A) → readFrom each bytes i n ≡ read l → All P l
+unfolding readFrom
+all-read P each h bytes i zero l e = rw (same-read e) none
+  where
+    same-read : read [] ≡ read l → l ≡ []
+    same-read q = cc
+all-read P each h bytes i (suc n) l e =
+    let r = went-on (each (recordAt bytes i) i) _ l e in
+    let s = went-on (readFrom each bytes (suc i) n) _ l (r .2) in
+    let tail = all-read P each h bytes (suc i) n (s .0) (s .1) in
+    rw (same-read (r .0) (s .0) (s .2)) (also (h (recordAt bytes i) i (r .0) (r .1)) tail)
+  where
+    same-read : (a : _) (rest : _) → read (a ∷ rest) ≡ read l → l ≡ a ∷ rest
+    same-read a rest q = cc
+
+-- ---- what a reading says
 
 -- P of what is read, or Q of the refusal's number and place
 abbrev pub Says : {A : Type 0} → Reading A → (A → Type 0) → (ℕ → ℕ → Type 0) → Type 0

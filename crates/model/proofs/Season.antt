@@ -19,7 +19,8 @@ use Rattle.model.specs.Stands.{Named, SlotsStand, Stands, ends, starts, 
 use Rattle.model.specs.Answers.{Answer, done, refusal}
 use Rattle.model.specs.Season.{AddedUp, AddsUp, Comes, FirstRate, Outcome, Rate, Takes, acceptedWith, first-class, no-class, notAddedUp, refusedBy, seasonOf, slotsTime}
 use Rattle.model.proofs.Lists.{All-imp, Along-one, total-at, total-congr}
-use Rattle.model.proofs.Orders.{Fit, no-refusal, read-fits}
+use Rattle.model.proofs.Orders.{Fit, read-fits}
+use Rattle.model.proofs.Readings.{no-refusal}
 use Rattle.model.proofs.Planner.{stand-read}
 use Rattle.model.proofs.PlanPieces.{class-grid, grid, grid-pos, scale, scale-class, slot-grid, unit}
 use Rattle.model.proofs.Sequence.{Nested, all-in, nested, nested-one, prefix, prefix-weight, upto}

@@ -21,7 +21,8 @@ use Rattle.model.proofs.Sums.{last}
 use Rattle.model.proofs.Fractions.{compare≤}
 use Rattle.model.proofs.Lists.{All-imp}
 use Rattle.model.proofs.Plans.{slots-planned}
-use Rattle.model.proofs.Orders.{Fit, no-refusal}
+use Rattle.model.proofs.Orders.{Fit}
+use Rattle.model.proofs.Readings.{no-refusal}
 use Rattle.demands.proofs.Existence.{classes-of}
 use Rattle.model.proofs.Standing.{same-member, same-rate}
 use Rattle.demands.proofs.Demand1.Agreeing.{classes-alike}

@@ -12,7 +12,8 @@ use Rattle.model.specs.Intervals.{settingOf}
 use Rattle.model.specs.Stands.{Stands}
 use Rattle.model.specs.Log.{Logged, readLog}
 use Rattle.model.specs.Answers.{Accepts, Answer, Drawn, Draws, Judges, Laid, Lays, Planned, Plans, Refuses, above, laidBy, lineOf, refusal, tooFast, unread}
-use Rattle.model.proofs.Given.{Given, given-exactly, Overlap, bay, blank, kind, many-doses, not-one-fans, overlapping, range, wrong-length, wrong-record}
+use Rattle.model.proofs.Given.{Given, given-exactly, bay, blank, kind, many-doses, not-one-fans, overlapping, range, wrong-length, wrong-record}
+use Rattle.model.proofs.Rests.{Overlap}
 use Rattle.demands.proofs.Demand2.Refusing.{TooFast}
 use Rattle.demands.proofs.Demand1.ByOrder.{OfOrder, order-accepted, order-refused}
 use Rattle.model.proofs.Answers.{draws-one, judges-one, lays-one}

@@ -13,7 +13,7 @@ use Rattle.model.specs.Records.{Reading, blankAt, meterKind, meterParts, pick, 
 use Rattle.model.specs.Log.{Logged, figures, loggedIn, loggedOf, meterFits, meterOf, readLog}
 use Rattle.model.proofs.Figures.{AddUp}
 use Rattle.model.proofs.Fractions.{compare≤}
-use Rattle.model.proofs.Orders.{no-refusal}
+use Rattle.model.proofs.Readings.{no-refusal}
 use Rattle.demands.proofs.Log.Stretches.{Rises, RisesBehind, behind, from, last}
 use Rattle.demands.proofs.Log.Metered.{logs-add-up}
 use Rattle.demands.proofs.Log.Given.{LogRecords, ReadAs, log-read-exactly, noLogged}

@@ -15,9 +15,10 @@ use Rattle.model.specs.Records.{pick, read, refused, recordSize, fansKind, dose
 use Rattle.model.specs.Orders.{Entry, bayOpen, checked, doseEntry, doseFits, doseOf, entryOf, fansEntry, fansFit, fansIn, fansOf}
 use Rattle.model.specs.Answers.{Answer, Refuses, above, unread}
 use Rattle.model.specs.Season.{begins, beforeNext, orderAt, ordersFrom, recordsAt}
-use Rattle.model.proofs.Given.{Entries, Given, bay, blank, given-exactly, kind, many-doses, noEntry, not-one-fans, overlapping, range, wrong-length, wrong-record}
+use Rattle.model.proofs.Given.{Entries, Given, bay, blank, given-exactly, kind, many-doses, not-one-fans, overlapping, range, wrong-length, wrong-record}
+use Rattle.model.proofs.Rests.{noEntry}
 use Rattle.model.proofs.Lists.{sum-first, total-at}
-use Rattle.model.proofs.Orders.{no-refusal}
+use Rattle.model.proofs.Readings.{no-refusal}
 use Rattle.model.proofs.Streams.{next-most}
 use Rattle.model.proofs.Sums.{sum-congr, sum-zero}
 use Rattle.demands.proofs.Season.Streams.{begins-inside, fansRecords}

@@ -15,7 +15,8 @@ use Rattle.model.specs.Sets.{on, sum}
 use Rattle.model.specs.Records.{Reading, fansKind, pick, read, recordSize}
 use Rattle.model.specs.Season.{begins, beforeNext, ordersFrom, orderAt, readStream, recordsAt, streamFits}
 use Rattle.model.proofs.Lists.{sum-first}
-use Rattle.model.proofs.Orders.{passed, three}
+use Rattle.model.proofs.Orders.{three}
+use Rattle.model.proofs.Readings.{passed}
 use Rattle.model.proofs.Sets.{or-elim, same-test}
 use Rattle.model.proofs.Sums.{sum-congr}
 use Rattle.model.proofs.Streams.{next-begins, next-here, next-most, order-first}

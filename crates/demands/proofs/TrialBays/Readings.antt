@@ -13,7 +13,8 @@ use Rattle.model.specs.Limits.{orderRoom}
 use Rattle.model.specs.Records.{Reading, read, refused, pick, andThen, recordSize, fansKind, doseKind, doseParts, blankAt, recordAt, readFrom}
 use Rattle.model.specs.Orders.{Order, Dose, noDose, doseAt, Entry, fansEntry, doseEntry, doseOf, doseFits, bayOpen, dosesIn, entryOf, orderOf, readOrder}
 use Rattle.model.proofs.Fractions.{compare≤}
-use Rattle.model.proofs.Orders.{doses-of-records, no-refusal, order-in, passed, read-open, went-on}
+use Rattle.model.proofs.Orders.{doses-of-records, order-in, read-open}
+use Rattle.model.proofs.Readings.{no-refusal, passed, went-on}
 
 -- two readings are one; or the first is refused 15, and what the second reads has Q
 abbrev SameOrClosed : {A : Type 0} → (A → Type 0) → Reading A → Reading A → Type 0
