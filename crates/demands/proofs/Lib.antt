@@ -8,5 +8,6 @@ pub mod Demand2
 pub mod Demand3
 pub mod WholeSecond
 pub mod Log
+pub mod Former
 pub mod TrialBays
 pub mod Season

@@ -1,7 +1,6 @@
 -- Trial bays (document 02, C-14), sentence by sentence: "New orders that name them are not planned. Old orders and their plans are still judged, drawn
 -- and replayed"; "15, in planning only, in 5's place for that record after 5 itself, with the record's place". Assumes nothing.
 pub mod Readings
-pub mod Former
 pub mod Cases
 use mathlib.Core.Logic.{_↔_, _≢_, inl, inr}
 use mathlib.Core.Path.{_≡_, refl}
@@ -20,7 +19,7 @@ use Rattle.model.proofs.Orders.{bay-most}
 use Rattle.demands.proofs.Demand1.{drawing-numbers, judging-numbers, laying-numbers, pen-numbers, planning-exactly, success-leaves-the-plan}
 use Rattle.demands.proofs.Demand1.Rows.{PlanningRow, planned, reading, small, top-rate}
 use Rattle.demands.proofs.Demand2.{plan-exists}
-use Rattle.demands.proofs.TrialBays.Former.{formerOrder, former-order}
+use Rattle.demands.proofs.Former.{formerOrder, former-order}
 use Rattle.demands.proofs.TrialBays.Readings.{read-exactly, reads-later, refused-later}
 
 -- ---- an order that planning reads is read by judging as the same order
