@@ -9,13 +9,16 @@
  * may be read and written, and overlap neither `order` nor `plan`.
  *
  * Records are 32 bytes, numbers least significant byte first, bytes not named zero:
- *   F 0x46  1 fans; 4-7 top grams; 8-11 top seconds
+ *   F 0x46  1 fans; 2 rule; 4-7 top grams; 8-11 top seconds
  *   D 0x44  2-3 bay; 4-7 release; 8-11 deadline; 12-15 grams
  *   C 0x43  1 class number; 2-3 doses in it; 4-7 W; 8-11 P
  *   S 0x53  1 fan; 2-3 dose; 4-7 start tick; 8-11 start part; 12-15 end tick; 16-19 end part; 20-23 W; 24-27 P; 28 class number
  *   M 0x4D  1 form; 2-3 bay; 4-7 tick, up to 604,800; 8-11 value
  * An order is one F and up to 24 D; a plan is C records by number, then S records by interval, fan, start. A tick is one second, a part is
  * 1/W of it. The rate of a class is W grams in P seconds of fan time.
+ *
+ * The rule, 0 or 1, says how long valves rest, wherever the F stands among the doses: by 0 windows of one bay may touch; by 1 the later release is at
+ * least 300 ticks after the earlier deadline. Windows of different bays need no rest, and only 8 asks for it.
  *
  * A log is up to 4,096 M records of one bay, their ticks rising. Form 0 is a missing reading, its value 0; form 1 a counter of grams, which runs
  * from 4,294,967,295 on to 0; form 2 a mean flow in grams per second, the bits of a 32-bit IEEE 754 float that is a multiple of 1/1024 from 0 to
@@ -33,7 +36,7 @@
  *   15  a trial bay, 900 to 999 (planning only)       } before 15
  *    6  F records not exactly one
  *    7  more than 24 doses
- *    8  two doses of one bay with overlapping windows
+ *    8  two doses of one bay with overlapping windows, or with less than their rest between them
  *    9  the first class is above the top rate: no plan within that rate exists
  *   10  plan bytes don't stand for the order (judging, drawing and a log)
  *   11  no such dose (drawing and a log)
@@ -43,9 +46,9 @@
  *   14  a tick of the log is not above the one before; only where no record is 13
  *   16  stream length no multiple of 32, or over 65,536, or its first record isn't an F (a season, which comes back with no other: those of its
  *       orders are counted)
- * place is the record's index for 3, 4, 5 and 15, that of the first D which overlaps an earlier one for 8, that of the first such record of the log
- * for 13 (0 for its length) and 14, else 0. With 9 come the doses of the first class as a set (bit i for dose i), their weight W, which is
- * their grams together, and their fan time P: they show that no plan exists. Fields not meant are 0.
+ * place is the record's index for 3, 4, 5 and 15, that of the first D which overlaps an earlier one of its bay, or is too near it, for 8, that of
+ * the first such record of the log for 13 (0 for its length) and 14, else 0. With 9 come the doses of the first class as a set (bit i for
+ * dose i), their weight W, which is their grams together, and their fan time P: they show that no plan exists. Fields not meant are 0.
  */
 #ifndef KNELLGABLE_H
 #define KNELLGABLE_H

@@ -10,4 +10,5 @@ pub mod WholeSecond
 pub mod Log
 pub mod Former
 pub mod TrialBays
+pub mod ValveRest
 pub mod Season

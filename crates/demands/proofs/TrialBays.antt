@@ -19,7 +19,7 @@ use Rattle.model.proofs.Orders.{bay-most}
 use Rattle.demands.proofs.Demand1.{drawing-numbers, judging-numbers, laying-numbers, pen-numbers, planning-exactly, success-leaves-the-plan}
 use Rattle.demands.proofs.Demand1.Rows.{PlanningRow, planned, reading, small, top-rate}
 use Rattle.demands.proofs.Demand2.{plan-exists}
-use Rattle.demands.proofs.Former.{formerOrder, former-order}
+use Rattle.demands.proofs.Former.{RuleZero, formerDose, formerOrder, document-01-order}
 use Rattle.demands.proofs.TrialBays.Readings.{read-exactly, reads-later, refused-later}
 
 -- ---- an order that planning reads is read by judging as the same order
@@ -122,9 +122,9 @@ laying-never h e = elim (laying-numbers h) [
 
 -- ---- an old order is read as it was before trial bays were closed
 
--- by 2, then record by record 3, 4, 5, then 6, 7, 8
-pub old-order-as-before : (order : List ℕ) → readOrder mostBay order ≡ formerOrder order
-old-order-as-before = former-order
+-- by 2, then record by record 3, 4, 5, then 6, 7, 8; in its F byte 2 is zero
+pub old-order-as-before : (order : List ℕ) → RuleZero order → readOrder mostBay order ≡ formerOrder formerDose order
+old-order-as-before = document-01-order
 
 -- and where it is accepted it has a plan that stands, trial bays or not: demands 2 and 3 speak of every order that judging reads
 pub old-order-has-a-plan : (order : List ℕ) (o : Order) → Accepts mostBay order o → (plan : List ℕ) × Stands o plan × Judges order plan done

@@ -4,7 +4,7 @@ use mathlib.Core.Bool.{Bool, true, false, not, _&&_}
 use mathlib.Core.Logic.{_↔_, _≢_, _⊎_, inl, inr}
 use mathlib.Core.Path.{_≡_, refl, sym, ap, _∙_}
 use mathlib.Core.List.{List, []}
-use Prim.Native.Nat.{ℕ, zero, _+_, _/_, _%_, _≤_, _<_}
+use Prim.Native.Nat.{ℕ, _+_, _/_, _%_, _≤_, _<_}
 use native.Mathlib.Nat.{zero-add}
 use native.Mathlib.Omega.{arith}
 use borrow.Author.Tests.{eq-eqb, eqb-false, le-leb, lt-leb, ne-eqb}
@@ -13,7 +13,7 @@ use lib.Ieee.Bits.{is-false, is-true}
 use lib.ListN.{length, getD}
 use Rattle.model.specs.Limits.{mostBay, mostDoses, orderRoom}
 use Rattle.model.specs.Records.{recordSize, pick, Reading, read, refused, andThen, doseKind, fansParts, doseParts, blankAt, recordAt, readAll}
-use Rattle.model.specs.Orders.{Dose, Entry, fansOf, doseOf, fansFit, doseFits, bayOpen, checked, entryOf, fansIn, dosesIn, noClash, orderIn, restOf, orderOf, readOrder}
+use Rattle.model.specs.Orders.{Dose, Entry, fansOf, doseOf, fansFit, doseFits, bayOpen, checked, entryOf, fansIn, dosesIn, noClash, orderIn, orderOf, readOrder}
 use Rattle.model.proofs.Sums.{last}
 use Rattle.model.proofs.Orders.{bay-most}
 use Rattle.model.proofs.Rests.{FirstOverlap, NoOverlaps, OverlapsEarlier, clash-refuses, first-clash, noEntry}
@@ -82,7 +82,7 @@ pub data Given (last : ℕ) (order : List ℕ) : ℕ → ℕ → Type 0 where
   many-doses : (es : List Entry) → Entries last order es → length (fansIn es) ≡ 1 → mostDoses < length (dosesIn es) → Given last order 7 0
   -- 8: place is "the record index of the first D that overlaps an earlier one"
   overlapping : (es : List Entry) → Entries last order es → length (fansIn es) ≡ 1 → length (dosesIn es) ≤ mostDoses
-      → (i : ℕ) → OverlapsEarlier (restOf (orderIn es)) es i → ((k : ℕ) → k < i → OverlapsEarlier (restOf (orderIn es)) es k → ⊥) → Given last order 8 i
+      → (i : ℕ) → OverlapsEarlier (orderIn es .rest) es i → ((k : ℕ) → k < i → OverlapsEarlier (orderIn es .rest) es k → ⊥) → Given last order 8 i
 
 -- ---- one record
 
@@ -151,7 +151,7 @@ module _ (last : ℕ) (order : List ℕ) where
       let few = leb (length (dosesIn es)) mostDoses in
       says-pick _ (Given last order) one _ _ (λ f.
       says-pick _ (Given last order) few _ _
-      (λ d. says-then _ (Given last order) (λ ds. Unit {0}) (noClash (restOf (orderIn es)) [] 0 es) _ (overlaps es g (eqb→eq _ _ f) (leb→le _ _ d) (noClash (restOf (orderIn es)) [] 0 es) (first-clash (restOf (orderIn es)) es)) (λ ds u. tt))
+      (λ d. says-then _ (Given last order) (λ ds. Unit {0}) (noClash (orderIn es .rest) [] 0 es) _ (overlaps es g (eqb→eq _ _ f) (leb→le _ _ d) (noClash (orderIn es .rest) [] 0 es) (first-clash (orderIn es .rest) es)) (λ ds u. tt))
       (λ d. many-doses es g (eqb→eq _ _ f) (nleb→lt _ _ d)))
       (λ f. not-one-fans es g (λ e. T-not one f (rw e tt)))))
       (λ t. wrong-length (unsized (eqb (length order % recordSize) 0) refl t))
@@ -181,7 +181,7 @@ module _ (last : ℕ) (order : List ℕ) where
               }) (r .0))
 
       overlaps : (es : List Entry) → Entries last order es → length (fansIn es) ≡ 1 → length (dosesIn es) ≤ mostDoses
-          → (x : Reading (List Dose)) → Says x (NoOverlaps (restOf (orderIn es)) es) (FirstOverlap (restOf (orderIn es)) es) → Says x (λ ds. Unit {0}) (Given last order)
+          → (x : Reading (List Dose)) → Says x (NoOverlaps (orderIn es .rest) es) (FirstOverlap (orderIn es .rest) es) → Says x (λ ds. Unit {0}) (Given last order)
       overlaps es g one few (read ds) s = tt
       overlaps es g one few (refused number place) s = rw (s .0) (overlapping es g one few place (s .1) (s .2))
 
@@ -214,7 +214,7 @@ module _ (last : ℕ) (order : List ℕ) where
       (walk-refused (entryOf last) order noEntry (length order / recordSize) 0 n i (i, r .there, λ k l. let e = r .earlier k l in (e .0, sym (from-zero k) ∙ e .1), sym (from-zero i) ∙ row-refuses last (recordAt order i) i n row))
   row-given number place (not-one-fans es g h) = past-records es g ∙ rw (ne-eqb (length (fansIn es)) 1 h)
   row-given number place (many-doses es g one h) = past-records es g ∙ rw (one, lt-leb (length (dosesIn es)) mostDoses h)
-  row-given number place (overlapping es g one few i o none) = past-records es g ∙ rw (one, le-leb (length (dosesIn es)) mostDoses few, clash-refuses (restOf (orderIn es)) es i o none)
+  row-given number place (overlapping es g one few i o none) = past-records es g ∙ rw (one, le-leb (length (dosesIn es)) mostDoses few, clash-refuses (orderIn es .rest) es i o none)
 
   -- the table: a number and place are given exactly when their row says
   pub given-exactly : (number place : ℕ) → (readOrder last order ≡ refused number place) ↔ Given last order number place

@@ -1,17 +1,19 @@
 -- What is known of an order that was read: every field is in its range, every bay is open, and windows of one bay are apart. Assumes nothing.
-use mathlib.Core.Path.{_≡_, refl, ap, _∙_}
+use mathlib.Core.Path.{_≡_, refl, sym, ap, _∙_}
 use mathlib.Core.Bool.{Bool, true, false, _&&_}
-use mathlib.Core.Logic.{_⊎_}
+use mathlib.Core.Logic.{_≢_, _⊎_, inl, inr}
 use mathlib.Core.List.{List, [], _∷_}
 use Prim.Native.Nat.{ℕ, _+_, _/_, _%_, _≤_, _<_}
+use native.Mathlib.Nat.{eq-or-lt-of-le}
 use native.Mathlib.Omega.{arith}
 use lib.Dec.{T, eqb, leb, leb→le, eqb→eq}
 use lib.ListN.{length, getD}
-use Rattle.model.specs.Limits.{lastRelease, mostBay, mostDoses, mostFans, mostGrams, mostTop, orderRoom, week}
+use Rattle.model.specs.Limits.{lastRelease, lastRule, mostBay, mostDoses, mostFans, mostGrams, mostTop, orderRoom, week}
 use Rattle.model.specs.Lists.{All, none, also, Pairs, lone}
 use Rattle.model.specs.Records.{recordSize, pick, within, Reading, read, refused, fansParts, doseParts, blankAt, readAll}
-use Rattle.model.specs.Orders.{Fans, Dose, Order, noDose, doseAt, Entry, fansEntry, doseEntry, fansOf, doseOf, fansFit, doseFits, bayOpen, checked, entryOf, fansIn, dosesIn, noClash, orderWith, orderIn, restOf, orderOf, readOrder}
+use Rattle.model.specs.Orders.{Fans, Dose, Order, noDose, doseAt, Entry, fansEntry, doseEntry, fansOf, doseOf, fansFit, doseFits, bayOpen, checked, entryOf, fansIn, dosesIn, noClash, restBy, orderWith, orderIn, orderOf, readOrder}
 use Rattle.model.proofs.Sets.{and-left, and-right}
+use Rattle.model.proofs.Fractions.{compare≤}
 use Rattle.model.proofs.Readings.{passed, went-on, all-read}
 use Rattle.model.proofs.Rests.{NoClash, apart-windows, clear, doses-read}
 use Rattle.model.proofs.Lists.{All-at, Pairs-at}
@@ -77,7 +79,19 @@ pub record Fit (o : Order) : Type 0 where
   pub some-grams : (k : ℕ) → k < length (o .doses) → 1 ≤ doseAt o k .grams
   pub light : (k : ℕ) → k < length (o .doses) → doseAt o k .grams ≤ mostGrams
   pub inlets : (i k : ℕ) → i < k → k < length (o .doses) → doseAt o i .bay ≡ doseAt o k .bay
-      → (doseAt o i .deadline + restOf o ≤ doseAt o k .release) ⊎ (doseAt o k .deadline + restOf o ≤ doseAt o i .release)
+      → (doseAt o i .deadline + o .rest ≤ doseAt o k .release) ⊎ (doseAt o k .deadline + o .rest ≤ doseAt o i .release)
+
+-- windows of two doses of one bay have the order's rest between them, whichever is the earlier
+pub windows-rest : {o : Order} → Fit o → (i k : ℕ) → i ≢ k → i < length (o .doses) → k < length (o .doses) → doseAt o i .bay ≡ doseAt o k .bay
+    → (doseAt o i .deadline + o .rest ≤ doseAt o k .release) ⊎ (doseAt o k .deadline + o .rest ≤ doseAt o i .release)
+windows-rest fit i k n li lk e = elim (compare≤ i k) [
+  | inl h ↦ elim (eq-or-lt-of-le h) [ inl z ↦ absurd (n z) | inr l ↦ fit .inlets i k l lk e ]
+  | inr l ↦ swap (fit .inlets k i l li (sym e))
+]
+  where
+    swap : {A B : Type 0} → A ⊎ B → B ⊎ A
+    swap (inl x) = inr x
+    swap (inr x) = inl x
 
 -- lo to hi, as an order
 pub in-range : (lo hi v : ℕ) → T (within lo hi v) → (lo ≤ v) × (v ≤ hi)
@@ -103,35 +117,35 @@ dose-parts d t =
     (omega (arith, window .0), window .1, grams .0, grams .1)
 
 order-fits : (fs : List Fans) (ds : List Dose) → length fs ≡ 1 → All (λ f. T (fansFit f)) fs → length ds ≤ mostDoses → ((k : ℕ) → k < length ds → T (doseFits (getD ds k noDose)))
-    → Pairs (NoClash (restOf (orderWith fs ds))) ds → Fit (orderWith fs ds)
+    → Pairs (NoClash (orderWith fs ds .rest)) ds → Fit (orderWith fs ds)
 order-fits [] ds one af few ad free = absurd (omega arith)
 order-fits (f ∷ fs) ds one (also p af) few ad free =
-    let r = three (within 1 mostFans (f .fans)) (within 1 mostTop (f .topGrams)) (within 1 mostTop (f .topSeconds)) p in
+    let r = four (within 1 mostFans (f .fans)) (leb (f .rule) lastRule) (within 1 mostTop (f .topGrams)) (within 1 mostTop (f .topSeconds)) p in
     let fan = in-range 1 mostFans (f .fans) (r .0) in
     record {
       fans-least = fan .0;
       fans-most = fan .1;
-      top-grams = in-range 1 mostTop (f .topGrams) (r .1) .0;
-      top-seconds = in-range 1 mostTop (f .topSeconds) (r .2) .0;
+      top-grams = in-range 1 mostTop (f .topGrams) (r .2) .0;
+      top-seconds = in-range 1 mostTop (f .topSeconds) (r .3) .0;
       few = few;
       window = λ k l. dose-parts (getD ds k noDose) (ad k l) .0;
       week = λ k l. dose-parts (getD ds k noDose) (ad k l) .1;
       some-grams = λ k l. dose-parts (getD ds k noDose) (ad k l) .2;
       light = λ k l. dose-parts (getD ds k noDose) (ad k l) .3;
-      inlets = λ i k l q. apart-windows (restOf (orderWith (f ∷ fs) ds)) (getD ds i noDose) (getD ds k noDose) (Pairs-at noDose free i k l q);
+      inlets = λ i k l q. apart-windows (restBy (f .rule)) (getD ds i noDose) (getD ds k noDose) (Pairs-at noDose free i k l q);
     }
 
 -- what records come to, where 6, 7 and 8 passed
 record Passed (es : List Entry) (o : Order) : Type 0 where
   one : length (fansIn es) ≡ 1
   few : length (dosesIn es) ≤ mostDoses
-  free : noClash (restOf (orderIn es)) [] 0 es ≡ read (dosesIn es)
+  free : noClash (orderIn es .rest) [] 0 es ≡ read (dosesIn es)
   is : o ≡ orderIn es
 
 records-passed : (es : List Entry) (o : Order) → orderOf es ≡ read o → Passed es o
 unfolding orderOf
 records-passed es o e =
-    let rest = restOf (orderIn es) in
+    let rest = orderIn es .rest in
     let c = passed (eqb (length (fansIn es)) 1) _ 6 0 o e in
     let d = passed (leb (length (dosesIn es)) mostDoses) _ 7 0 o (c .1) in
     let f = went-on (noClash rest [] 0 es) _ o (d .1) in
@@ -177,7 +191,7 @@ read-fits last bytes o e =
     let p = r .passes in
     let doses = doses-fit last es (r .fit) in
     rw (p .is) (order-fits (fansIn es) (dosesIn es) (p .one) (fans-fit last es (r .fit)) (p .few) (λ k l. All-at noDose doses k l .0)
-    (clear (restOf (orderIn es)) [] 0 es (dosesIn es) lone (p .free)))
+    (clear (orderIn es .rest) [] 0 es (dosesIn es) lone (p .free)))
 
 -- and its doses' bays are open
 pub read-open : (last : ℕ) (bytes : List ℕ) (o : Order) → readOrder last bytes ≡ read o → (k : ℕ) → k < length (o .doses) → doseAt o k .bay ≤ last

@@ -1,13 +1,14 @@
--- Windows of one bay, for any length of rest: where no two clash they are apart, and else 8 has the place of the first that does. Assumes nothing.
-use mathlib.Core.Bool.{Bool, true, false, not, _&&_, _||_}
-use mathlib.Core.Logic.{_⊎_, inl, inr}
-use mathlib.Core.Path.{_≡_, refl, sym, ap, _∙_}
+-- Windows of one bay, for any length of rest (document 02, C-16: "shown once over the length of rest"): where no two clash they are apart, and else 8
+-- has the place of the first that does; a longer rest asks for more. Assumes nothing.
+use mathlib.Core.Bool.{Bool, true, false, not, _||_}
+use mathlib.Core.Logic.{_↔_, _⊎_, inl, inr}
+use mathlib.Core.Path.{_≡_, refl, sym, ap, subst, _∙_}
 use mathlib.Core.List.{List, [], _∷_, _++_, append-assoc, append-nil}
 use Prim.Native.Nat.{ℕ, zero, suc, _+_, _≤_, _<_}
 use native.Mathlib.Nat.{eq-or-lt-of-le}
 use native.Mathlib.Omega.{arith}
 use borrow.Author.Tests.{eq-eqb, lt-leb}
-use lib.Dec.{T, eqb, leb, leb→le, eqb→eq, eqb-refl, T-not, nleb→lt}
+use lib.Dec.{T, eqb, leb, eqb→eq, T-not, nleb→lt}
 use lib.ListN.{length, getD, length-append, List·getD-append}
 use lib.Seq.{getD-append-seam}
 use Rattle.model.specs.Lists.{All, none, also, Pairs, lone, then}
@@ -17,9 +18,13 @@ use Rattle.model.proofs.Sets.{and-left, and-right, or-elim, or-left, or
 use Rattle.model.proofs.Lists.{Pairs-append}
 use Rattle.model.proofs.Sums.{last}
 use Rattle.model.proofs.Fractions.{compare≤}
-use Rattle.model.proofs.Readings.{no-refusal, Says, says-pick}
+use Rattle.model.proofs.Readings.{no-refusal, Says, refusal-says, says-pick}
 
--- ---- no clash: the windows are apart
+-- neither of two tests holds
+neither : (a b : Bool) → T (not (a || b)) → T (not a) × T (not b)
+neither false b u = (tt, u)
+
+-- ---- no clash
 
 module _ (rest : ℕ) where
   -- the doses that do not clash are all doses
@@ -42,9 +47,6 @@ module _ (rest : ℕ) where
   unfolding clashesAny
   no-clashes d [] t = none
   no-clashes d (x ∷ l) t = let r = neither (clash rest d x) (clashesAny rest d l) t in also (also (r .0) none) (no-clashes d l (r .1))
-    where
-      neither : (a b : Bool) → T (not (a || b)) → T (not a) × T (not b)
-      neither false b u = (tt, u)
 
   pub clear : (earlier : List Dose) (i : ℕ) (es : List Entry) (ds : List Dose) → Pairs NoClash earlier → noClash rest earlier i es ≡ read ds
       → Pairs NoClash ds
@@ -58,17 +60,6 @@ module _ (rest : ℕ) where
       past : (b : Bool) {x : Reading (List Dose)} → pick b (refused 8 i) x ≡ read ds → T (not b) × (x ≡ read ds)
       past true q = absurd (no-refusal 8 i ds q)
       past false q = (tt, q)
-
-  -- two doses of one bay that do not clash have the rest between their windows
-  pub apart-windows : (x y : Dose) → NoClash x y → x .bay ≡ y .bay → (x .deadline + rest ≤ y .release) ⊎ (y .deadline + rest ≤ x .release)
-  apart-windows x y t e =
-      let same : T (eqb (y .bay) (x .bay)) = rw (← e) (eqb-refl (x .bay)) in
-      let gap = yes (eqb (y .bay) (x .bay)) (apart rest y x) same t in
-      or-elim (leb (y .deadline + rest) (x .release)) (leb (x .deadline + rest) (y .release)) gap
-      (λ u. inr (leb→le (y .deadline + rest) (x .release) u)) (λ u. inl (leb→le (x .deadline + rest) (y .release) u))
-    where
-      yes : (a b : Bool) → T a → T (not (a && not b)) → T b
-      yes true true s u = tt
 
 -- what stands for a record past the last
 abbrev pub noEntry : Entry
@@ -91,7 +82,7 @@ pub record OverlapsEarlier (rest : ℕ) (es : List Entry) (i : ℕ) : Type 0 whe
   pub was : getD es earlier noEntry ≡ doseEntry other
   pub overlap : Overlap rest dose other
 
--- ---- a clash: 8 has the place of the first
+-- ---- a clash, and no clash: windows that overlap and windows that are apart; 8 has the place of the first
 
 doses-append : (front es : List Entry) → dosesIn (front ++ es) ≡ dosesIn front ++ dosesIn es
 unfolding dosesIn
@@ -101,6 +92,10 @@ doses-append (doseEntry d ∷ front) es = ap (λ (l : List Dose). d ∷ l) (dose
 
 module _ (rest : ℕ) where
   -- the test of two doses
+  overlap-clash : (x y : Dose) → Overlap rest x y → T (clash rest x y)
+  overlap-clash x y h =
+      rw (eq-eqb (x .bay) (y .bay) (h .bay), lt-leb (x .deadline + rest) (y .release) (h .closes), lt-leb (y .deadline + rest) (x .release) (h .opens)) tt
+
   clash-overlap : (x y : Dose) → T (clash rest x y) → Overlap rest x y
   clash-overlap x y t =
       let bays = eqb (x .bay) (y .bay) in
@@ -111,13 +106,16 @@ module _ (rest : ℕ) where
         opens = nleb→lt (y .deadline + rest) (x .release) (near .1);
         closes = nleb→lt (x .deadline + rest) (y .release) (near .0);
       }
-    where
-      neither : (a b : Bool) → T (not (a || b)) → T (not a) × T (not b)
-      neither false b u = (tt, u)
 
-  overlap-clash : (x y : Dose) → Overlap rest x y → T (clash rest x y)
-  overlap-clash x y h =
-      rw (eq-eqb (x .bay) (y .bay) (h .bay), lt-leb (x .deadline + rest) (y .release) (h .closes), lt-leb (y .deadline + rest) (x .release) (h .opens)) tt
+  -- two doses of one bay that do not clash have the rest between their windows
+  pub apart-windows : (x y : Dose) → NoClash rest x y → x .bay ≡ y .bay → (x .deadline + rest ≤ y .release) ⊎ (y .deadline + rest ≤ x .release)
+  apart-windows x y t e = elim (compare≤ (x .deadline + rest) (y .release)) [
+    | inl h ↦ inl h
+    | inr closes ↦ elim (compare≤ (y .deadline + rest) (x .release)) [
+      | inl h ↦ inr h
+      | inr opens ↦ absurd (T-not (clash rest y x) t (overlap-clash y x (record { bay = sym e; opens = closes; closes = opens })))
+    ]
+  ]
 
   -- a dose that clashes with one of the records in front
   clashes-with : (d : Dose) (front : List Entry) → T (clashesAny rest d (dosesIn front))
@@ -221,4 +219,60 @@ module _ (rest : ℕ) where
       go (refused number place) s = elim (compare≤ place i) [
         | inl h ↦ elim (eq-or-lt-of-le h) [ inl e ↦ let n = s .0 in cc | inr q ↦ absurd (so-far place q (s .1)) ]
         | inr q ↦ absurd (s .2 i q o)
+      ]
+
+-- ---- overlapping windows, in the words of the rule
+
+-- two doses of one bay overlap under a rest exactly if neither release is at least so long after the other's deadline
+pub overlaps-exactly : (rest : ℕ) (x y : Dose) → x .bay ≡ y .bay → Overlap rest x y ↔ ((x .deadline + rest ≤ y .release) ⊎ (y .deadline + rest ≤ x .release) → ⊥)
+overlaps-exactly rest x y e = (
+  λ o w. elim w [ inl h ↦ omega (arith, o .closes) | inr h ↦ omega (arith, o .opens) ],
+  λ n. record {
+    bay = e;
+    opens = elim (compare≤ (y .deadline + rest) (x .release)) [ inl h ↦ absurd (n (inr h)) | inr h ↦ h ];
+    closes = elim (compare≤ (x .deadline + rest) (y .release)) [ inl h ↦ absurd (n (inl h)) | inr h ↦ h ];
+  },
+)
+
+-- ---- a longer rest
+
+module _ (rest longer : ℕ) (more : rest ≤ longer) where
+  -- what overlaps under a rest overlaps under a longer one
+  overlaps-longer : (es : List Entry) (i : ℕ) → OverlapsEarlier rest es i → OverlapsEarlier longer es i
+  overlaps-longer es i o =
+      let w = o .overlap in
+      record {
+        there = o .there;
+        dose = o .dose;
+        is = o .is;
+        earlier = o .earlier;
+        before = o .before;
+        other = o .other;
+        was = o .was;
+        overlap = record { bay = w .bay; opens = omega (arith, w .opens); closes = omega (arith, w .closes) };
+      }
+
+  -- windows that are apart under a longer rest are apart under a shorter one
+  pub apart-shorter : (es : List Entry) (ds : List Dose) → noClash longer [] 0 es ≡ read ds → noClash rest [] 0 es ≡ read ds
+  apart-shorter es ds e = go (noClash rest [] 0 es) refl (first-clash rest es)
+    where
+      free : NoOverlaps longer es ds
+      free = subst (λ (x : Reading (List Dose)). Says x (NoOverlaps longer es) (FirstOverlap longer es)) e (first-clash longer es)
+
+      go : (x : Reading (List Dose)) → noClash rest [] 0 es ≡ x → Says x (NoOverlaps rest es) (FirstOverlap rest es) → x ≡ read ds
+      go (read l) q s = ap read (doses-read rest [] 0 es l q ∙ sym (doses-read longer [] 0 es ds e))
+      go (refused number place) q s = absurd (free place (overlaps-longer es place (s .1)))
+
+  -- and 8 under a shorter rest is 8 under a longer one, for that record or an earlier one
+  pub clash-longer : (es : List Entry) (i : ℕ) → noClash rest [] 0 es ≡ refused 8 i → (k : ℕ) × (k ≤ i) × (noClash longer [] 0 es ≡ refused 8 k)
+  clash-longer es i e =
+      let first = refusal-says (NoOverlaps rest es) (FirstOverlap rest es) (noClash rest [] 0 es) (first-clash rest es) 8 i e in
+      go (overlaps-longer es i (first .1)) (noClash longer [] 0 es) refl (first-clash longer es)
+    where
+      go : OverlapsEarlier longer es i → (x : Reading (List Dose)) → noClash longer [] 0 es ≡ x → Says x (NoOverlaps longer es) (FirstOverlap longer es)
+          → (k : ℕ) × (k ≤ i) × (noClash longer [] 0 es ≡ refused 8 k)
+      go o (read l) q s = absurd (s i o)
+      go o (refused number place) q s = elim (compare≤ place i) [
+        | inl h ↦ (place, h, q ∙ ap (λ (n : ℕ). refused n place) (s .0))
+        | inr h ↦ absurd (s .2 i h o)
       ]

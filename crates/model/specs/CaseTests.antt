@@ -8,7 +8,7 @@ use lib.ListN.{length, getD}
 use Rattle.model.specs.Limits.{lastOpenBay, week}
 use Rattle.model.specs.Sets.{sum, Doses, weight}
 use Rattle.model.specs.Records.{Reading, read, refused, pick, numberAt, numberBytes, fieldsAt, blankAt, recordBytes, readFrom}
-use Rattle.model.specs.Orders.{Order, entryOf, fansIn, dosesIn, clashesAny, noClash, restOf, orderOf, readOrder}
+use Rattle.model.specs.Orders.{Order, entryOf, fansIn, dosesIn, clashesAny, noClash, orderOf, readOrder}
 use Rattle.model.specs.Classes.{Setting, Row, noDenser, asDense, openFans, P, free, remaining}
 use Rattle.model.specs.Intervals.{insert, instants, settingOf, fansPresent}
 use Rattle.model.specs.Shares.{need, room, holds, got, given}
@@ -202,7 +202,7 @@ caseTest c = readingTest c (readOrder lastOpenBay (c .order)) && not (eqb (c .an
 
 -- every row passes
 pub cases-pass : T (allIn caseTest cases)
-unfolding allBelow allIn everySet insideTest someTest givesWay nextTest roomTest fullTest metTest validTest most forcedTest sameList sameClass sameSlot sameState samePoint sameAnswer emptyList nothingTest classTest sharesTest pointTest fastTest doneTest slowTest recordsTest planTest readingTest caseTest sum weight numberAt numberBytes fieldsAt blankAt recordBytes readFrom entryOf fansIn dosesIn clashesAny noClash restOf orderOf readOrder openFans P free remaining insert instants gather total cut line pieceSlot laneSlots intervalSlots tableSlots unitsBefore timeOf drawn feeds startsBefore earlier earliest stateBy fedAt stateAt listed
+unfolding allBelow allIn everySet insideTest someTest givesWay nextTest roomTest fullTest metTest validTest most forcedTest sameList sameClass sameSlot sameState samePoint sameAnswer emptyList nothingTest classTest sharesTest pointTest fastTest doneTest slowTest recordsTest planTest readingTest caseTest sum weight numberAt numberBytes fieldsAt blankAt recordBytes readFrom entryOf fansIn dosesIn clashesAny noClash orderOf readOrder openFans P free remaining insert instants gather total cut line pieceSlot laneSlots intervalSlots tableSlots unitsBefore timeOf drawn feeds startsBefore earlier earliest stateBy fedAt stateAt listed
 cases-pass = tt
 
 -- ---- slots that are not the planner's: P1's, with that of dose 0 cut in two at second 5

@@ -92,9 +92,13 @@ pub record Right (c : Case) : Type 0 where
 
 -- ---- the rows
 
--- an F record
+-- an F record that names a rule for the rest
+abbrev pub FBy : ℕ → ℕ → ℕ → ℕ → List ℕ
+FBy rule fans grams seconds = recordBytes fansParts (fansKind ∷ fans ∷ rule ∷ grams ∷ seconds ∷ [])
+
+-- and by rule 0
 abbrev pub F : ℕ → ℕ → ℕ → List ℕ
-F fans grams seconds = recordBytes fansParts (fansKind ∷ fans ∷ grams ∷ seconds ∷ [])
+F = FBy 0
 
 -- a D record
 abbrev pub D : ℕ → ℕ → ℕ → ℕ → List ℕ
@@ -167,6 +171,30 @@ aloneOrder order = record {
   points = drawing 0 604800 10 finished ∷ [];
 }
 
+-- P12's doses and plan, for any bytes of that order
+abbrev pub inTurnOrder : List ℕ → Case
+inTurnOrder order = record {
+  order = order;
+  answer = done;
+  sets = (0 ∷ 1 ∷ []) ∷ [];
+  shares = ((80 ∷ 0 ∷ []) ∷ (0 ∷ 80 ∷ []) ∷ []) ∷ [];
+  classes = class 1 2 20 8 ∷ [];
+  slots = slot 1 0 0 0 4 0 20 8 1 ∷ slot 1 1 4 0 8 0 20 8 1 ∷ [];
+  points = drawing 0 4 10 finished ∷ [];
+}
+
+-- the same doses with 300 seconds between them
+abbrev pub restedOrder : List ℕ → Case
+restedOrder order = record {
+  order = order;
+  answer = done;
+  sets = (0 ∷ 1 ∷ []) ∷ [];
+  shares = ((80 ∷ 0 ∷ 0 ∷ []) ∷ (0 ∷ 0 ∷ 80 ∷ []) ∷ []) ∷ [];
+  classes = class 1 2 20 8 ∷ [];
+  slots = slot 1 0 0 0 4 0 20 8 1 ∷ slot 1 1 304 0 308 0 20 8 1 ∷ [];
+  points = drawing 0 4 10 finished ∷ drawing 1 303 0 shut ∷ drawing 1 304 0 (dosing 1) ∷ drawing 1 306 5 (dosing 1) ∷ [];
+}
+
 -- "Doses as [release, deadline) grams, numbered from 0, each its own bay, top 1000/1 unless said."
 abbrev pub cases : List Case
 cases =
@@ -225,15 +253,7 @@ cases =
     -- P11: no bytes: 6
     ∷ refusedCase [] 6 0
     -- P12: one fan, one bay, 10 grams each, F first: [0,4) and [4,8) accepted; [0,4) and [3,8) refused 8, place 2
-    ∷ record {
-      order = F 1 1000 1 ++ D 1 0 4 10 ++ D 1 4 8 10;
-      answer = done;
-      sets = (0 ∷ 1 ∷ []) ∷ [];
-      shares = ((80 ∷ 0 ∷ []) ∷ (0 ∷ 80 ∷ []) ∷ []) ∷ [];
-      classes = class 1 2 20 8 ∷ [];
-      slots = slot 1 0 0 0 4 0 20 8 1 ∷ slot 1 1 4 0 8 0 20 8 1 ∷ [];
-      points = drawing 0 4 10 finished ∷ [];
-    }
+    ∷ inTurnOrder (F 1 1000 1 ++ D 1 0 4 10 ++ D 1 4 8 10)
     ∷ refusedCase (F 1 1000 1 ++ D 1 0 4 10 ++ D 1 3 8 10) 8 2
     -- document 02, C-12: two fans; three of [0,2) 10. A share cut by wrap-around, its later piece first in the file; slots that start, or end,
     -- inside a second
@@ -299,6 +319,26 @@ cases =
     -- C-14: a fault in an earlier record comes first, and so does 2
     ∷ refusedCase (F 2 1000 1 ++ D 1 0 5 0 ++ D 900 0 5 10) 5 1
     ∷ refusedCase (F 2 1000 1 ++ D 900 0 5 10 ++ 0 ∷ []) 2 0
+    -- C-16, rule 1: exactly 300 seconds between the windows of a bay, and one less; the F may stand behind its doses, and between them
+    ∷ restedOrder (FBy 1 1 1000 1 ++ D 1 0 4 10 ++ D 1 304 308 10)
+    ∷ refusedCase (FBy 1 1 1000 1 ++ D 1 0 4 10 ++ D 1 303 308 10) 8 2
+    ∷ restedOrder (D 1 0 4 10 ++ D 1 304 308 10 ++ FBy 1 1 1000 1)
+    ∷ refusedCase (D 1 0 4 10 ++ D 1 303 308 10 ++ FBy 1 1 1000 1) 8 1
+    ∷ refusedCase (D 1 0 4 10 ++ FBy 1 1 1000 1 ++ D 1 303 308 10) 8 2
+    -- C-16: the later record may be the earlier window, and by rule 0 any time between them will do
+    ∷ refusedCase (FBy 1 1 1000 1 ++ D 1 303 308 10 ++ D 1 0 4 10) 8 2
+    ∷ restedOrder (F 1 1000 1 ++ D 1 0 4 10 ++ D 1 304 308 10)
+    -- C-16: windows that touch: of one bay refused, of two bays accepted
+    ∷ refusedCase (FBy 1 1 1000 1 ++ D 1 0 4 10 ++ D 1 4 8 10) 8 2
+    ∷ inTurnOrder (FBy 1 1 1000 1 ++ D 1 0 4 10 ++ D 2 4 8 10)
+    -- C-16: of three doses the one in the middle is too close to the last, or to the first; the place is that of the later record
+    ∷ refusedCase (FBy 1 1 1000 1 ++ D 1 0 4 10 ++ D 1 900 904 10 ++ D 1 304 601 10) 8 3
+    ∷ refusedCase (FBy 1 1 1000 1 ++ D 1 0 4 10 ++ D 1 303 308 10 ++ D 1 608 612 10) 8 2
+    -- C-16: byte 2 above 1 is 5; byte 3 must be zero, and 4 comes first
+    ∷ refusedCase (FBy 2 1 1000 1 ++ D 1 0 4 10) 5 0
+    ∷ refusedCase (D 1 0 4 10 ++ FBy 255 1 1000 1) 5 1
+    ∷ refusedCase (recordBytes classParts (fansKind ∷ 1 ∷ 0x0100 ∷ 1000 ∷ 1 ∷ [])) 4 0
+    ∷ refusedCase (recordBytes classParts (fansKind ∷ 1 ∷ 0x0102 ∷ 1000 ∷ 1 ∷ [])) 4 0
     ∷ []
 
 -- row n of the table, from 1

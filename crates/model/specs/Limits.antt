@@ -11,6 +11,14 @@ mostFans = 8
 abbrev pub mostTop : ℕ
 mostTop = 1000000
 
+-- "Byte 2 of F .. names the rule": 0 or 1
+abbrev pub lastRule : ℕ
+lastRule = 1
+
+-- "Newer inlet valves must rest 300 seconds between doses": what rule 1 asks for
+abbrev pub valveRest : ℕ
+valveRest = 300
+
 -- "bay, 1 to 999"
 abbrev pub mostBay : ℕ
 mostBay = 999

@@ -10,7 +10,7 @@ use lib.ListN.{length, replicate, take}
 use Rattle.model.specs.Limits.{mostBay}
 use Rattle.model.specs.Lists.{total}
 use Rattle.model.specs.Records.{Reading, read, refused, pick, numberAt, numberBytes, meterKind, meterParts, fieldsAt, blankAt, recordBytes, readFrom}
-use Rattle.model.specs.Orders.{Order, doseAt, entryOf, fansIn, dosesIn, clashesAny, noClash, restOf, orderOf, readOrder}
+use Rattle.model.specs.Orders.{Order, doseAt, entryOf, fansIn, dosesIn, clashesAny, noClash, orderOf, readOrder}
 use Rattle.model.specs.Intervals.{settingOf}
 use Rattle.model.specs.Plans.{planRecordOf, planRecords, planRecordBytes, recordsBytes, slotsIn}
 use Rattle.model.specs.Line.{unitsBefore, timeOf, drawn}
@@ -149,5 +149,5 @@ logTest c =
 
 -- every row passes
 pub log-cases-pass : T (allIn logTest logCases)
-unfolding allIn sameAnswer sameLaid laidBy laidOf laidTest logTest numberAt numberBytes fieldsAt blankAt recordBytes readFrom entryOf fansIn dosesIn clashesAny noClash restOf orderOf readOrder planRecordOf planRecords planRecordBytes recordsBytes slotsIn total unitsBefore timeOf drawn flowFits flowParts valueFits meterFits readingOf loggedOf risesFrom rises readLog stretchesFrom stretches meteringOf ifMetered ifKnown ifUnknown figuresOf ofBits
+unfolding allIn sameAnswer sameLaid laidBy laidOf laidTest logTest numberAt numberBytes fieldsAt blankAt recordBytes readFrom entryOf fansIn dosesIn clashesAny noClash orderOf readOrder planRecordOf planRecords planRecordBytes recordsBytes slotsIn total unitsBefore timeOf drawn flowFits flowParts valueFits meterFits readingOf loggedOf risesFrom rises readLog stretchesFrom stretches meteringOf ifMetered ifKnown ifUnknown figuresOf ofBits
 log-cases-pass = tt

@@ -1,16 +1,17 @@
--- Orders (document 01, "Records" and refusals 2 to 8; document 02, C-14: 15): from any bytes to fans, top rate and doses, or the refusal with
--- its place. Reading takes the last bay that is open: the caller says whether trial bays are.
+-- Orders (document 01, "Records" and refusals 2 to 8; document 02, C-14: 15, and C-16: the rest): from any bytes to fans, rest, top rate and doses,
+-- or the refusal with its place. Reading takes the last bay that is open: the caller says whether trial bays are.
 use mathlib.Core.Bool.{Bool, true, false, not, _&&_, _||_}
 use mathlib.Core.List.{List, [], _∷_, _++_}
 use Prim.Native.Nat.{ℕ, suc, _+_, _%_}
 use lib.Dec.{eqb, leb}
 use lib.ListN.{length, getD}
-use Rattle.model.specs.Limits.{lastRelease, mostBay, mostDoses, mostFans, mostGrams, mostTop, orderRoom, week}
+use Rattle.model.specs.Limits.{lastRelease, lastRule, mostBay, mostDoses, mostFans, mostGrams, mostTop, orderRoom, valveRest, week}
 use Rattle.model.specs.Records.{pick, within, Reading, read, refused, andThen, recordSize, fansKind, doseKind, fansParts, doseParts, blankAt, fieldOf, readAll}
 
 -- the fields of an F record
 pub record Fans : Type 0 where
   pub fans : ℕ
+  pub rule : ℕ
   pub topGrams : ℕ
   pub topSeconds : ℕ
 
@@ -21,9 +22,10 @@ pub record Dose : Type 0 where
   pub deadline : ℕ
   pub grams : ℕ
 
--- "An order is exactly one F, anywhere among up to 24 D. Dose number = count of D records before it."
+-- "An order is exactly one F, anywhere among up to 24 D. Dose number = count of D records before it." Its rest is in seconds, by the rule of its F
 pub record Order : Type 0 where
   pub fans : ℕ
+  pub rest : ℕ
   pub topGrams : ℕ
   pub topSeconds : ℕ
   pub doses : List Dose
@@ -45,15 +47,16 @@ pub data Entry : Type 0 where
 
 -- the fields of an F record, from its bytes; field 0 is the kind
 abbrev pub fansOf : List ℕ → Fans
-fansOf r = record { fans = fieldOf fansParts r 1; topGrams = fieldOf fansParts r 2; topSeconds = fieldOf fansParts r 3 }
+fansOf r = record { fans = fieldOf fansParts r 1; rule = fieldOf fansParts r 2; topGrams = fieldOf fansParts r 3; topSeconds = fieldOf fansParts r 4 }
 
 -- the fields of a D record, from its bytes
 abbrev pub doseOf : List ℕ → Dose
 doseOf r = record { bay = fieldOf doseParts r 1; release = fieldOf doseParts r 2; deadline = fieldOf doseParts r 3; grams = fieldOf doseParts r 4 }
 
--- "number of fans, 1 to 8; top grams, top seconds, each 1 to 1,000,000"
+-- "number of fans, 1 to 8; top grams, top seconds, each 1 to 1,000,000"; "byte 2 above 1 is 5"
 abbrev pub fansFit : Fans → Bool
-fansFit f = within 1 mostFans (f .fans) && within 1 mostTop (f .topGrams) && within 1 mostTop (f .topSeconds)
+fansFit f =
+    within 1 mostFans (f .fans) && leb (f .rule) lastRule && within 1 mostTop (f .topGrams) && within 1 mostTop (f .topSeconds)
 
 -- "bay, 1 to 999; release, 0 to 604,799; deadline, release+1 to 604,800; grams, 1 to 1,000,000"
 abbrev pub doseFits : Dose → Bool
@@ -108,24 +111,24 @@ noClash rest earlier i [] = read earlier
 noClash rest earlier i (fansEntry f ∷ es) = noClash rest earlier (suc i) es
 noClash rest earlier i (doseEntry d ∷ es) = pick (clashesAny rest d earlier) (refused 8 i) (noClash rest (earlier ++ d ∷ []) (suc i) es)
 
+-- the rest of a rule, in seconds: "0 lets windows of a bay touch, 1 asks that the later release be at least 300 after the earlier deadline"
+abbrev pub restBy : ℕ → ℕ
+restBy rule = pick (eqb rule 0) 0 valveRest
+
 -- the order with the fans of an F record
 abbrev pub orderWith : List Fans → List Dose → Order
-orderWith [] ds = record { fans = 0; topGrams = 0; topSeconds = 0; doses = ds }
-orderWith (f ∷ fs) ds = record { fans = f .fans; topGrams = f .topGrams; topSeconds = f .topSeconds; doses = ds }
+orderWith [] ds = record { fans = 0; rest = 0; topGrams = 0; topSeconds = 0; doses = ds }
+orderWith (f ∷ fs) ds = record { fans = f .fans; rest = restBy (f .rule); topGrams = f .topGrams; topSeconds = f .topSeconds; doses = ds }
 
 -- what all records come to; the F may stand behind the doses
 abbrev pub orderIn : List Entry → Order
 orderIn es = orderWith (fansIn es) (dosesIn es)
 
--- the rest that an order asks for between windows of one bay: "touching is allowed", so none
-unfoldable pub restOf : Order → ℕ
-restOf o = 0
-
 -- 6 "F records not exactly one", 7 "more than 24 doses", 8 by the order's own rest
 unfoldable pub orderOf : List Entry → Reading Order
 orderOf es =
     pick (eqb (length (fansIn es)) 1)
-    (pick (leb (length (dosesIn es)) mostDoses) (andThen (noClash (restOf (orderIn es)) [] 0 es) (λ ds. read (orderWith (fansIn es) ds))) (refused 7 0))
+    (pick (leb (length (dosesIn es)) mostDoses) (andThen (noClash (orderIn es .rest) [] 0 es) (λ ds. read (orderWith (fansIn es) ds))) (refused 7 0))
     (refused 6 0)
 
 -- 2 "order length no multiple of 32, or over 1,600", "then record by record 3, 4, 5 in that order" and 15, "then 6, 7, 8"; bays are open up to

@@ -1,4 +1,4 @@
--- Records (document 01, "Records"; document 02, C-11): "All records are 32 bytes, no header, numbers least significant byte first."
+-- Records (document 01, "Records"; document 02, C-11 and C-16): "All records are 32 bytes, no header, numbers least significant byte first."
 use mathlib.Core.Bool.{Bool, true, false, _&&_}
 use mathlib.Core.List.{List, [], _∷_, _++_}
 use Prim.Native.Nat.{ℕ, zero, suc, _+_, _*_, _/_, _%_}
@@ -67,9 +67,9 @@ pub data Part : Type 0 where
   field : ℕ → Part
   blank : ℕ → Part
 
--- "F (0x46) fans: 1 number of fans; 4-7 top grams, 8-11 top seconds"; field 0 of every record is its kind
+-- "F (0x46) fans: 1 number of fans; 4-7 top grams, 8-11 top seconds", and "Byte 2 of F .. names the rule"; field 0 of every record is its kind
 abbrev pub fansParts : List Part
-fansParts = field 1 ∷ field 1 ∷ blank 2 ∷ field 4 ∷ field 4 ∷ blank 20 ∷ []
+fansParts = field 1 ∷ field 1 ∷ field 1 ∷ blank 1 ∷ field 4 ∷ field 4 ∷ blank 20 ∷ []
 
 -- "D (0x44) dose: 2-3 bay; 4-7 release; 8-11 deadline; 12-15 grams"
 abbrev pub doseParts : List Part

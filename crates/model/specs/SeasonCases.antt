@@ -9,7 +9,7 @@ use Rattle.model.specs.Limits.{mostBay, orderNumbers, streamRoom}
 use Rattle.model.specs.Sets.{sum, weight}
 use Rattle.model.specs.Lists.{gather, total}
 use Rattle.model.specs.Records.{pick, Reading, read, refused, numberAt, numberBytes, fieldsAt, blankAt, recordBytes, readFrom, fansKind, doseKind, slotKind, classParts}
-use Rattle.model.specs.Orders.{entryOf, fansIn, dosesIn, clashesAny, noClash, restOf, orderOf, readOrder}
+use Rattle.model.specs.Orders.{entryOf, fansIn, dosesIn, clashesAny, noClash, orderOf, readOrder}
 use Rattle.model.specs.Classes.{openFans, P, free, remaining}
 use Rattle.model.specs.Intervals.{insert, instants}
 use Rattle.model.specs.Plans.{Class}
@@ -17,7 +17,7 @@ use Rattle.model.specs.Layout.{cut, line, pieceSlot, laneSlots, interval
 use Rattle.model.specs.Line.{unitsBefore, timeOf, drawn, feeds, startsBefore, earlier, earliest, stateBy, fedAt, stateAt}
 use Rattle.model.specs.Answers.{refusal, done}
 use Rattle.model.specs.Season.{beforeNext, ordersFrom, readStream, Rate, noRate, Outcome, acceptedWith, refusedBy, greatestFrom, Season, seasonOf, AddedUp, notAddedUp, AddsUp}
-use Rattle.model.specs.Cases.{Case, F, D, refusedCase, aloneOrder, bench, listed}
+use Rattle.model.specs.Cases.{Case, F, FBy, D, refusedCase, aloneOrder, bench, listed}
 use Rattle.model.specs.CaseTests.{allBelow, allIn, everySet, insideTest, someTest, givesWay, nextTest, roomTest, fullTest, metTest, validTest, most, forcedTest, sameList, sameClass, sameSlot, sameState, samePoint, sameAnswer, emptyList, nothingTest, classTest, sharesTest, pointTest, fastTest, doneTest, slowTest, recordsTest, planTest, readingTest}
 use Rattle.model.specs.TrialCases.{dosesInTurn}
 
@@ -94,7 +94,7 @@ seasonCases =
     ∷ refusedCase (F 1 1000 1 ++ dosesInTurn 50) 2 0
     ∷ refusedCase (F 1 1000 1 ++ recordBytes classParts (slotKind ∷ 1 ∷ [])) 3 1
     ∷ refusedCase (F 1 1000 1 ++ recordBytes classParts (doseKind ∷ 1 ∷ [])) 4 1
-    ∷ refusedCase (recordBytes classParts (fansKind ∷ 1 ∷ 1 ∷ [])) 4 0
+    ∷ refusedCase (recordBytes classParts (fansKind ∷ 1 ∷ 0x0100 ∷ [])) 4 0
     ∷ refusedCase (F 1 1000 1 ++ D 1 0 5 0) 5 1
     ∷ refusedCase (F 9 1000 1 ++ D 1 0 5 10) 5 0
     ∷ refusedCase (F 1 1000 1 ++ dosesInTurn 25) 7 0
@@ -105,6 +105,9 @@ seasonCases =
     ) (figures 2 (0 ∷ 0 ∷ 1 ∷ 1 ∷ 2 ∷ 2 ∷ 0 ∷ 1 ∷ 1 ∷ 1 ∷ []) 18 9 10 5)
     -- "Trial bays are read as in judging, without 15."
     ∷ seasonCase (aloneOrder (F 2 1000 1 ++ D 900 0 5 10) ∷ bench 5 ∷ []) (figures 2 allAccepted 20 10 10 5)
+    -- C-16: each order by the rule of its own F
+    ∷ seasonCase (bench 12 ∷ refusedCase (FBy 1 1 1000 1 ++ D 1 0 4 10 ++ D 1 4 8 10) 8 2 ∷ bench 12 ∷ [])
+    (figures 2 (0 ∷ 0 ∷ 0 ∷ 0 ∷ 0 ∷ 0 ∷ 0 ∷ 0 ∷ 1 ∷ 0 ∷ []) 40 16 20 8)
     ∷ []
 
 -- ---- the test of a row
@@ -143,5 +146,5 @@ seasonTest c = addedTest c (readStream (c .stream))
 
 -- every row passes
 pub season-cases-pass : T (allIn seasonTest seasonCases)
-unfolding joined dosesInTurn firstIn caseOutcome sameSeason judgedTest addedTest seasonTest beforeNext ordersFrom readStream greatestFrom seasonOf allBelow allIn everySet insideTest someTest givesWay nextTest roomTest fullTest metTest validTest most forcedTest sameList sameClass sameSlot sameState samePoint sameAnswer emptyList nothingTest classTest sharesTest pointTest fastTest doneTest slowTest recordsTest planTest readingTest sum weight numberAt numberBytes fieldsAt blankAt recordBytes readFrom entryOf fansIn dosesIn clashesAny noClash restOf orderOf readOrder openFans P free remaining insert instants gather total cut line pieceSlot laneSlots intervalSlots tableSlots unitsBefore timeOf drawn feeds startsBefore earlier earliest stateBy fedAt stateAt listed
+unfolding joined dosesInTurn firstIn caseOutcome sameSeason judgedTest addedTest seasonTest beforeNext ordersFrom readStream greatestFrom seasonOf allBelow allIn everySet insideTest someTest givesWay nextTest roomTest fullTest metTest validTest most forcedTest sameList sameClass sameSlot sameState samePoint sameAnswer emptyList nothingTest classTest sharesTest pointTest fastTest doneTest slowTest recordsTest planTest readingTest sum weight numberAt numberBytes fieldsAt blankAt recordBytes readFrom entryOf fansIn dosesIn clashesAny noClash orderOf readOrder openFans P free remaining insert instants gather total cut line pieceSlot laneSlots intervalSlots tableSlots unitsBefore timeOf drawn feeds startsBefore earlier earliest stateBy fedAt stateAt listed
 season-cases-pass = tt

@@ -7,7 +7,7 @@ use Rattle.model.specs.Limits.{lastOpenBay, mostBay}
 use Rattle.model.specs.Sets.{sum, weight}
 use Rattle.model.specs.Lists.{gather, total}
 use Rattle.model.specs.Records.{Reading, read, refused, numberAt, numberBytes, fieldsAt, blankAt, recordBytes, readFrom, doseKind, classKind, classParts}
-use Rattle.model.specs.Orders.{Order, entryOf, fansIn, dosesIn, clashesAny, noClash, restOf, orderOf, readOrder}
+use Rattle.model.specs.Orders.{Order, entryOf, fansIn, dosesIn, clashesAny, noClash, orderOf, readOrder}
 use Rattle.model.specs.Classes.{openFans, P, free, remaining}
 use Rattle.model.specs.Intervals.{insert, instants}
 use Rattle.model.specs.Layout.{cut, line, pieceSlot, laneSlots, intervalSlots, tableSlots}
@@ -78,5 +78,5 @@ trialTest c = closedTest (c .place) (readOrder lastOpenBay (c .old .order)) && r
 
 -- every row passes
 pub trial-cases-pass : T (allIn trialTest trialCases)
-unfolding dosesInTurn closedTest trialTest allBelow allIn everySet insideTest someTest givesWay nextTest roomTest fullTest metTest validTest most forcedTest sameList sameClass sameSlot sameState samePoint sameAnswer emptyList nothingTest classTest sharesTest pointTest fastTest doneTest slowTest recordsTest planTest readingTest sum weight numberAt numberBytes fieldsAt blankAt recordBytes readFrom entryOf fansIn dosesIn clashesAny noClash restOf orderOf readOrder openFans P free remaining insert instants gather total cut line pieceSlot laneSlots intervalSlots tableSlots unitsBefore timeOf drawn feeds startsBefore earlier earliest stateBy fedAt stateAt listed
+unfolding dosesInTurn closedTest trialTest allBelow allIn everySet insideTest someTest givesWay nextTest roomTest fullTest metTest validTest most forcedTest sameList sameClass sameSlot sameState samePoint sameAnswer emptyList nothingTest classTest sharesTest pointTest fastTest doneTest slowTest recordsTest planTest readingTest sum weight numberAt numberBytes fieldsAt blankAt recordBytes readFrom entryOf fansIn dosesIn clashesAny noClash orderOf readOrder openFans P free remaining insert instants gather total cut line pieceSlot laneSlots intervalSlots tableSlots unitsBefore timeOf drawn feeds startsBefore earlier earliest stateBy fedAt stateAt listed
 trial-cases-pass = tt

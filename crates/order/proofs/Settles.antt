@@ -1,5 +1,5 @@
 -- What the records of an order come to. Assumes nothing.
-use Prim.Native.Nat.{ℕ, suc, _+_, _-_, _<_, _≤_}
+use Prim.Native.Nat.{ℕ, suc, _+_, _<_, _≤_}
 use mathlib.Core.Path.{_≡_, refl, sym, ap, _∙_}
 use mathlib.Core.Bool.{Bool, true, false}
 use mathlib.Core.List.{List, [], _∷_, _++_, append-assoc, append-nil}
@@ -10,7 +10,7 @@ use lib.Dec.{eqb, leb, ltb, eqb·suc-zero}
 use lib.ListN.{length, getD, length-append}
 use Rattle.model.specs.Limits.{mostDoses}
 use Rattle.model.specs.Records.{pick, Reading, read, refused, andThen}
-use Rattle.model.specs.Orders.{fansEntry, doseEntry, noDose, fansIn, dosesIn, noClash, orderWith, orderIn, restOf, orderOf, readOrder}
+use Rattle.model.specs.Orders.{fansEntry, doseEntry, noDose, fansIn, dosesIn, noClash, orderWith, orderIn, orderOf, readOrder}
 use Rattle.model.specs.Orders as orders
 use Rattle.order.specs.declared.Order.{Order}
 use Rattle.records.specs.declared.order_records.Fans.{Fans}
@@ -60,7 +60,7 @@ doses-held o ds h l = ap (dosesFrom o 0) (h .count) ∙ run-all (doseHeld o) ds 
 pub as-held : (o : orders.Order) → length (o .doses) ≤ mostDoses → asOrder (heldOrder o) ≡ o
 unfolding asOrder heldOrder
 as-held o few =
-    ap (λ (l : List orders.Dose). record { fans = o .fans; topGrams = o .topGrams; topSeconds = o .topSeconds; doses = l })
+    ap (λ (l : List orders.Dose). record { fans = o .fans; rest = o .rest; topGrams = o .topGrams; topSeconds = o .topSeconds; doses = l })
     (doses-held (heldOrder o) (o .doses) (holds-held o) few)
 
 holds-more : (o : Order) (ds : List orders.Dose) (d : orders.Dose) → Holds o ds → length ds < mostDoses → Holds (withDose o (heldDose d)) (ds ++ d ∷ [])
@@ -91,12 +91,13 @@ doses-add [] s k = omega arith
 doses-add (fansEntry f ∷ es) s k = doses-add es (withFans s (heldFans f)) (suc k)
 doses-add (doseEntry d ∷ es) s k = let h = doses-add es (withDoseAt s (heldDose d) k) (suc k) in omega arith
 
-abbrev headOf : Order → Fans
-headOf o = record { fans = o .fans; «top_grams» = o .«top_grams»; «top_seconds» = o .«top_seconds» }
+-- what an order has of its F, and what it has of the last of many
+abbrev headOf : Order → orders.Order
+headOf o = record { fans = o .fans; rest = o .rest; topGrams = o .«top_grams»; topSeconds = o .«top_seconds»; doses = [] }
 
-last : Fans → List orders.Fans → Fans
+last : orders.Order → List orders.Fans → orders.Order
 last x [] = x
-last x (f ∷ fs) = last (heldFans f) fs
+last x (f ∷ fs) = last (orderWith (f ∷ []) []) fs
 
 head-kept : (o : Order) (d : Dose) → headOf (withDose o d) ≡ headOf o
 unfolding withDose
@@ -107,7 +108,7 @@ unfolding last adding fansIn withFans withDoseAt
 head-add [] s k = refl
 head-add (fansEntry f ∷ es) s k = head-add es (withFans s (heldFans f)) (suc k)
 head-add (doseEntry d ∷ es) s k =
-    head-add es (withDoseAt s (heldDose d) k) (suc k) ∙ ap (λ (x : Fans). last x (fansIn es)) (head-kept (s .order) (heldDose d))
+    head-add es (withDoseAt s (heldDose d) k) (suc k) ∙ ap (λ (x : orders.Order). last x (fansIn es)) (head-kept (s .order) (heldDose d))
 
 -- ---- the doses gathered, and their places
 
@@ -155,24 +156,25 @@ gathers (doseEntry d ∷ es) s k ds ps h l =
 
 -- ---- the checks behind the last record
 
-one-head : (x : Fans) (fs : List orders.Fans) → length fs ≡ 1 → (f : orders.Fans) × (fs ≡ f ∷ []) × (last x fs ≡ heldFans f)
+one-head : (x : orders.Order) (fs : List orders.Fans) → length fs ≡ 1 → (f : orders.Fans) × (fs ≡ f ∷ []) × (last x fs ≡ orderWith (f ∷ []) [])
 unfolding last
 one-head x [] h = absurd (let z : ⊥ = omega arith in z)
 one-head x (f ∷ []) h = (f, refl, refl)
 one-head x (f ∷ g ∷ fs) h = absurd (let z : ⊥ = omega arith in z)
 
-same-fields : {a b c n : ℕ} {v w x y : List ℕ} (o : Order) → a ≡ o .fans → b ≡ o .«top_grams» → c ≡ o .«top_seconds» → n ≡ o .count
+same-fields : {a r b c n : ℕ} {v w x y : List ℕ} (o : Order) → a ≡ o .fans → r ≡ o .rest → b ≡ o .«top_grams» → c ≡ o .«top_seconds» → n ≡ o .count
     → v ≡ o .bay → w ≡ o .release → x ≡ o .deadline → y ≡ o .grams
-    → record { fans = a; «top_grams» = b; «top_seconds» = c; count = n; bay = v; release = w; deadline = x; grams = y } ≡ o
-same-fields o p q r s t u v w = rw (p, q, r, s, t, u, v, w)
+    → record { fans = a; rest = r; «top_grams» = b; «top_seconds» = c; count = n; bay = v; release = w; deadline = x; grams = y } ≡ o
+same-fields o p m q r s t u v w = rw (p, m, q, r, s, t, u, v, w)
 
-same-order : (o : Order) (f : orders.Fans) (ds : List orders.Dose) → headOf o ≡ heldFans f → Holds o ds → o ≡ heldOrder (orderWith (f ∷ []) ds)
+same-order : (o : Order) (f : orders.Fans) (ds : List orders.Dose) → headOf o ≡ orderWith (f ∷ []) [] → Holds o ds → o ≡ heldOrder (orderWith (f ∷ []) ds)
 unfolding heldOrder
 same-order o f ds e h =
     same-fields (heldOrder (orderWith (f ∷ []) ds))
-    (ap (λ (x : Fans). x .fans) e)
-    (ap (λ (x : Fans). x .«top_grams») e)
-    (ap (λ (x : Fans). x .«top_seconds») e)
+    (ap (λ (x : orders.Order). x .fans) e)
+    (ap (λ (x : orders.Order). x .rest) e)
+    (ap (λ (x : orders.Order). x .topGrams) e)
+    (ap (λ (x : orders.Order). x .topSeconds) e)
     (h .count) (h .bay) (h .release) (h .deadline) (h .grams)
 
 abbrev done : Order → code.Reading
@@ -207,9 +209,9 @@ clashed-held s fs ds ps k e n p =
 -- one F and at most 24 doses: what was gathered holds the order of the records, so that its rest, its count, its first clash and
 -- the place kept for that dose are those of the records
 settled-few : (es : List orders.Entry) → length (fansIn es) ≡ 1 → length (dosesIn es) ≤ mostDoses
-    → (let t = adding noRecords 0 es in clashed t (firstClash (restOf (asOrder (t .order))) (t .order)))
-    ≡ heldReading (andThen (noClash (restOf (orderIn es)) [] 0 es) (λ ds. read (orderWith (fansIn es) ds)))
-unfolding noRecords
+    → (let t = adding noRecords 0 es in clashed t (firstClash (t .order .rest) (t .order)))
+    ≡ heldReading (andThen (noClash (orderIn es .rest) [] 0 es) (λ ds. read (orderWith (fansIn es) ds)))
+unfolding noRecords heldOrder
 settled-few es one few =
     let t = adding noRecords 0 es in
     let ds = dosesIn es in
@@ -218,10 +220,10 @@ settled-few es one few =
     let (f, p, q) = one-head (headOf noOrder) (fansIn es) one in
     let own = same-order (t .order) f ds (head-add es noRecords 0 ∙ q) (h .doses) in
     let again = ap (λ (fs : List orders.Fans). orderWith fs ds) (sym p) in
-    let rest = restOf (orderIn es) in
+    let rest = orderIn es .rest in
     let k = firstOf (clashesEarlier rest (t .order)) 0 (length ds) in
     let place = ap (λ (l : List ℕ). getD l k 0) (h .places) ∙ column-at (λ (k : ℕ). k) 0 refl mostDoses ps k (omega (arith, h .each)) in
-    ap (λ (o : orders.Order). clashed t (firstClash (restOf o) (t .order))) (ap asOrder own ∙ as-held (orderWith (f ∷ []) ds) few ∙ again)
+    ap (λ (n : ℕ). clashed t (firstClash n (t .order))) (ap (λ (o : Order). o .rest) own ∙ ap (λ (o : orders.Order). o .rest) again)
     ∙ ap (λ (n : ℕ). clashed t (firstOf (clashesEarlier rest (t .order)) 0 n)) (h .doses .count)
     ∙ clashed-held t (fansIn es) ds ps k (own ∙ ap heldOrder again) (h .doses .count) place
     ∙ ap (λ (x : Reading (List orders.Dose)). heldReading (andThen x (λ l. read (orderWith (fansIn es) l))))

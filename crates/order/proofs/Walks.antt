@@ -11,7 +11,7 @@ use lib.Dec.{eqb, leb}
 use lib.ListN.{length, getD, length-append}
 use Rattle.model.specs.Limits.{mostDoses, orderRoom}
 use Rattle.model.specs.Records.{recordSize, pick, Reading, read, refused, andThen, blankAt, fansParts, doseParts, recordAt, readFrom}
-use Rattle.model.specs.Orders.{fansEntry, doseEntry, fansOf, doseOf, fansFit, doseFits, bayOpen, checked, entryOf, fansIn, dosesIn, noClash, clashesAny, orderWith, orderIn, restOf, orderOf, readOrder}
+use Rattle.model.specs.Orders.{fansEntry, doseEntry, fansOf, doseOf, fansFit, doseFits, bayOpen, checked, entryOf, fansIn, dosesIn, noClash, clashesAny, orderWith, orderIn, orderOf, readOrder}
 use Rattle.model.specs.Orders as orders
 use Rattle.order.proofs.Cases.{picked}
 use Rattle.order.specs.declared.Entry.{Entry}
@@ -84,7 +84,7 @@ each-order es =
     (picked (Each (λ (o : orders.Order). length (o .doses) ≤ mostDoses)) (leb (length (dosesIn es)) mostDoses) _ (refused 7 0)
     (λ e.
     let few : length (dosesIn es) ≤ mostDoses = leb-true (length (dosesIn es)) mostDoses e in
-    each-then _ (each-clash (restOf (orderIn es)) es [] 0) (λ l q. let n : length l ≤ mostDoses = omega arith in reads {a = orderWith (fansIn es) l} (rw (with-doses (fansIn es) l) n)))
+    each-then _ (each-clash (orderIn es .rest) es [] 0) (λ l q. let n : length l ≤ mostDoses = omega arith in reads {a = orderWith (fansIn es) l} (rw (with-doses (fansIn es) l) n)))
     (λ e. refuses))
     refuses
 

@@ -7,10 +7,10 @@ use lib.ListN.{getD, set}
 use Rattle.model.specs.Limits.{mostDoses}
 use Rattle.model.specs.Records.{pick, read, refused, blankAt, fansParts, doseParts}
 use Rattle.model.specs.Records as records
-use Rattle.model.specs.Orders.{fansEntry, doseEntry, fansOf, doseOf, fansFit, doseFits, bayOpen, checked, clash, restOf}
+use Rattle.model.specs.Orders.{fansEntry, doseEntry, fansOf, doseOf, fansFit, doseFits, bayOpen, checked, clash, restBy}
 use Rattle.model.specs.Orders as orders
 use Rattle.records.specs.Held.{heldFans, heldDose}
-use Rattle.order.specs.Held.{heldEntry, doseHeld, asOrder, column, noOrder}
+use Rattle.order.specs.Held.{heldEntry, doseHeld, column, noOrder}
 use Rattle.records.specs.declared.order_records.Fans.{Fans}
 use Rattle.records.specs.declared.order_records.Dose.{Dose}
 use Rattle.order.specs.declared.Entry.{Entry}
@@ -37,6 +37,7 @@ unfoldable pub withDose : Order → Dose → Order
 withDose o d = pick (leb mostDoses (o .count)) o
     (record {
       fans = o .fans;
+      rest = o .rest;
       «top_grams» = o .«top_grams»;
       «top_seconds» = o .«top_seconds»;
       count = o .count + 1;
@@ -60,6 +61,7 @@ withFans s f = record {
   places = s .places;
   order = record {
     fans = f .fans;
+    rest = restBy (f .rule);
     «top_grams» = f .«top_grams»;
     «top_seconds» = f .«top_seconds»;
     count = s .order .count;
@@ -138,5 +140,5 @@ clashed s k = pick (ltb k (s .order .count)) (refusedReading 8 (getD (s .places)
 unfoldable pub settled : Gathered → Reading
 settled s =
     pick (eqb (s .heads) 1)
-    (pick (leb (s .doses) mostDoses) (clashed s (firstClash (restOf (asOrder (s .order))) (s .order))) (refusedReading 7 0))
+    (pick (leb (s .doses) mostDoses) (clashed s (firstClash (s .order .rest) (s .order))) (refusedReading 7 0))
     (refusedReading 6 0)

@@ -45,7 +45,7 @@ dosesHeld o = dosesFrom o 0 (o .count)
 
 -- the order that the struct holds
 unfoldable pub asOrder : Order → orders.Order
-asOrder o = record { fans = o .fans; topGrams = o .«top_grams»; topSeconds = o .«top_seconds»; doses = dosesHeld o }
+asOrder o = record { fans = o .fans; rest = o .rest; topGrams = o .«top_grams»; topSeconds = o .«top_seconds»; doses = dosesHeld o }
 
 -- an array of n places: what f gives of each member, then zeros
 unfoldable pub column : {A : Type 0} → (A → ℕ) → ℕ → List A → List ℕ
@@ -57,6 +57,7 @@ column f (suc n) (a ∷ l) = f a ∷ column f n l
 unfoldable pub heldOrder : orders.Order → Order
 heldOrder o = record {
   fans = o .fans;
+  rest = o .rest;
   «top_grams» = o .topGrams;
   «top_seconds» = o .topSeconds;
   count = length (o .doses);
@@ -68,7 +69,7 @@ heldOrder o = record {
 
 -- zeros
 abbrev pub noOrder : Order
-noOrder = heldOrder (record { fans = 0; topGrams = 0; topSeconds = 0; doses = [] })
+noOrder = heldOrder (record { fans = 0; rest = 0; topGrams = 0; topSeconds = 0; doses = [] })
 
 -- ---- the answer
 

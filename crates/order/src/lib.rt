@@ -1,4 +1,5 @@
-// Orders read from bytes (document 01, "Records" and refusals 2 to 8; document 02, C-14: 15). The caller names the last bay that is open.
+// Orders read from bytes (document 01, "Records" and refusals 2 to 8; document 02, C-14: 15, and C-16: the rest). The caller names the last bay that
+// is open.
 mod record; // record.rt: one record
 
 use record::record_at;
@@ -6,14 +7,15 @@ use records::Dose;
 use records::Fans;
 use steps::limits::MOST_DOSES;
 use steps::limits::ORDER_ROOM;
+use steps::limits::VALVE_REST;
 ghost use mathlib.Core.Path.{_≡_};
 ghost use Prim.Native.Nat.{_+_, _<_, _≤_};
 ghost use lib.ListN.{length};
 ghost use Rattle.model.specs.Limits.{mostDoses, mostRecords, orderRoom};
 ghost use Rattle.model.specs.Records.{readAll};
-ghost use Rattle.model.specs.Orders.{entryOf, clash, restOf};
+ghost use Rattle.model.specs.Orders.{entryOf, clash, restBy};
 ghost use Rattle.records.specs.Held.{asDose};
-ghost use Rattle.order.specs.Held.{asOrder, doseHeld, heldEntry, noOrder, ReadFrom};
+ghost use Rattle.order.specs.Held.{doseHeld, heldEntry, noOrder, ReadFrom};
 ghost use Rattle.order.specs.Gathered.{noRecords, withDose, withPlace, withFans, withDoseAt};
 ghost use Rattle.order.specs.Gathered.{taken, takenOther, takenRefused, walkedFrom};
 ghost use Rattle.order.specs.Gathered.{earlierClash, firstClash, settled, refusedReading};
@@ -30,9 +32,10 @@ pub enum Entry {
     Refused(Refusal),
 }
 
-// "exactly one F, anywhere among up to 24 D": dose k stands at k of each array, zeros behind the last.
+// "exactly one F, anywhere among up to 24 D": dose k stands at k of each array, zeros behind the last. The rest is in seconds.
 pub struct Order {
     pub fans: u32,
+    pub rest: u32,
     pub top_grams: u32,
     pub top_seconds: u32,
     pub count: usize,
@@ -70,6 +73,7 @@ fn no_order() -> Order
 {
     Order {
         fans: 0,
+        rest: 0,
         top_grams: 0,
         top_seconds: 0,
         count: 0,
@@ -122,12 +126,23 @@ fn no_records() -> Gathered
     }
 }
 
+// The rest of a rule: "0 lets windows of a bay touch, 1 asks that the later release be at least 300 after the earlier deadline".
+fn rest_by(rule: u32) -> u32
+    ensures { λ r. ⌜ r ≡ restBy rule ⌝ }
+{
+    if rule == 0 {
+        return 0;
+    }
+    VALVE_REST
+}
+
 fn add_fans(s: Gathered, f: Fans) -> Gathered
     requires { ⌜ s .heads < mostRecords ⌝ }
     ensures { λ r. ⌜ r ≡ withFans s f ⌝ }
 {
     let mut o = s.order;
     o.fans = f.fans;
+    o.rest = rest_by(f.rule);
     o.top_grams = f.top_grams;
     o.top_seconds = f.top_seconds;
     let p = s.places;
@@ -262,13 +277,6 @@ fn dose_at(o: Order, k: usize) -> Dose
     }
 }
 
-// The rest that an order asks for between windows of one bay: "touching is allowed", so none.
-fn rest_of(o: Order) -> u32
-    ensures { λ r. ⌜ r ≡ restOf (asOrder o) ⌝ }
-{
-    0
-}
-
 // The second at which the bay of a dose has rested behind it.
 fn rested(rest: u32, d: Dose) -> u64
     ensures { λ r. ⌜ r ≡ d .deadline + rest ⌝ }
@@ -335,8 +343,7 @@ fn settle(s: Gathered) -> Reading
         return refuse(7, 0);
     }
     let o = s.order;
-    let rest = rest_of(o);
-    let k = first_clash(rest, o);
+    let k = first_clash(o.rest, o);
     if k < o.count {
         let place = from_byte(s.places[k]);
         return refuse(8, place);

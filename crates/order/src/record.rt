@@ -1,4 +1,4 @@
-// One record from its 32 bytes (document 01, "Records" and refusals 3, 4, 5; document 02, C-14: 15).
+// One record from its 32 bytes (document 01, "Records" and refusals 3, 4, 5; document 02, C-14: 15, and C-16: the rule).
 use crate::Entry;
 use crate::Refusal;
 use records::DOSE_KIND;
@@ -10,7 +10,9 @@ use records::dose_in;
 use records::fans_blank;
 use records::fans_in;
 use records::kind_of;
+use steps::both;
 use steps::limits::LAST_RELEASE;
+use steps::limits::LAST_RULE;
 use steps::limits::MOST_BAY;
 use steps::limits::MOST_FANS;
 use steps::limits::MOST_GRAMS;
@@ -33,13 +35,11 @@ fn inside(lo: u32, hi: u32, v: u32) -> bool
 fn fans_fit(f: Fans) -> bool
     ensures { λ r. ⌜ r ≡ fansFit (asFans f) ⌝ }
 {
-    if !inside(1, MOST_FANS, f.fans) {
-        return false;
-    }
-    if !inside(1, MOST_TOP, f.top_grams) {
-        return false;
-    }
-    inside(1, MOST_TOP, f.top_seconds)
+    let fans = inside(1, MOST_FANS, f.fans);
+    let rule = f.rule <= LAST_RULE;
+    let grams = inside(1, MOST_TOP, f.top_grams);
+    let seconds = inside(1, MOST_TOP, f.top_seconds);
+    both(both(both(fans, rule), grams), seconds)
 }
 
 // The release is checked before it is raised by one, so that no sum wraps.

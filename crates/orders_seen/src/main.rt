@@ -72,6 +72,7 @@ fn show_read(last: u32, bytes: &[u8]) {
     let o = r.order;
     word(b"order ");
     number(o.fans);
+    number(o.rest);
     number(o.top_grams);
     number(o.top_seconds);
     show_doses(o);
@@ -96,15 +97,22 @@ fn show_front(bytes: &[u8], len: usize) {
     }
 }
 
-fn put_fans(b: &mut [u8], at: usize, fans: u32, grams: u32, seconds: u32)
+fn put_fans_by(b: &mut [u8], at: usize, rule: u32, fans: u32, grams: u32, seconds: u32)
     requires { ⌜ at + 32 ≤ length (now b) ⌝ }
 {
     let f = Fans {
         fans,
+        rule,
         top_grams: grams,
         top_seconds: seconds,
     };
     records::put_fans(b, at, f);
+}
+
+fn put_fans(b: &mut [u8], at: usize, fans: u32, grams: u32, seconds: u32)
+    requires { ⌜ at + 32 ≤ length (now b) ⌝ }
+{
+    put_fans_by(b, at, 0, fans, grams, seconds);
 }
 
 fn put_dose(b: &mut [u8], at: usize, bay: u32, release: u32, deadline: u32, grams: u32)
@@ -300,6 +308,45 @@ fn two_clashes() {
     show(&b);
 }
 
+// Two doses, and behind them an F that names a rule.
+fn two_by(rule: u32, bay: u32, r1: u32, d1: u32, r2: u32, d2: u32) {
+    let mut b = [0u8; 96];
+    put_dose(&mut b, 0, 7, r1, d1, 10);
+    put_dose(&mut b, 32, bay, r2, d2, 10);
+    put_fans_by(&mut b, 64, rule, 1, 1000, 1);
+    show(&b);
+}
+
+// Three doses of a bay by rule 1.
+fn three_rested(r2: u32, d2: u32) {
+    let mut b = [0u8; 128];
+    put_fans_by(&mut b, 0, 1, 1, 1000, 1);
+    put_dose(&mut b, 32, 7, 0, 4, 10);
+    put_dose(&mut b, 64, 7, 904, 908, 10);
+    put_dose(&mut b, 96, 7, r2, d2, 10);
+    show(&b);
+}
+
+fn rests() {
+    word(
+        b"rest 300, 299, 301, the later first, another bay, up to the week's end; rules 0, 2, 255\n",
+    );
+    two_by(1, 7, 0, 4, 304, 308);
+    two_by(1, 7, 0, 4, 303, 308);
+    two_by(1, 7, 0, 4, 305, 308);
+    two_by(1, 7, 304, 308, 0, 4);
+    two_by(1, 7, 304, 308, 0, 5);
+    two_by(1, 8, 0, 4, 4, 8);
+    two_by(1, 7, 0, 604500, 604799, 604800);
+    two_by(0, 7, 0, 4, 4, 8);
+    two_by(2, 7, 0, 4, 304, 308);
+    two_by(255, 7, 0, 4, 304, 308);
+    word(b"of three doses the middle one apart, and too close to the first and to the last\n");
+    three_rested(304, 604);
+    three_rested(303, 604);
+    three_rested(304, 605);
+}
+
 fn main() {
     lengths();
     word(b"each byte of an F and of a D spoilt\n");
@@ -310,5 +357,6 @@ fn main() {
     clashes();
     heads();
     two_clashes();
+    rests();
     trials();
 }

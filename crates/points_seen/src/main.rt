@@ -28,6 +28,7 @@ fn put_fans(b: &mut [u8], at: usize, fans: u32)
 {
     let f = Fans {
         fans,
+        rule: 0,
         top_grams: 1000,
         top_seconds: 1,
     };

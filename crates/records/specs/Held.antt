@@ -14,10 +14,10 @@ use Rattle.records.specs.declared.log_records.Meter.{Meter}
 -- ---- F and D
 
 abbrev pub asFans : Fans → orders.Fans
-asFans f = record { fans = f .fans; topGrams = f .«top_grams»; topSeconds = f .«top_seconds» }
+asFans f = record { fans = f .fans; rule = f .rule; topGrams = f .«top_grams»; topSeconds = f .«top_seconds» }
 
 abbrev pub heldFans : orders.Fans → Fans
-heldFans f = record { fans = f .fans; «top_grams» = f .topGrams; «top_seconds» = f .topSeconds }
+heldFans f = record { fans = f .fans; rule = f .rule; «top_grams» = f .topGrams; «top_seconds» = f .topSeconds }
 
 abbrev pub asDose : Dose → orders.Dose
 asDose d = record { bay = d .bay; release = d .release; deadline = d .deadline; grams = d .grams }
@@ -27,7 +27,7 @@ heldDose d = record { bay = d .bay; release = d .release; deadline = d .deadline
 
 -- the 32 bytes of an F record
 abbrev pub fansBytes : orders.Fans → List ℕ
-fansBytes f = recordBytes fansParts (fansKind ∷ f .fans ∷ f .topGrams ∷ f .topSeconds ∷ [])
+fansBytes f = recordBytes fansParts (fansKind ∷ f .fans ∷ f .rule ∷ f .topGrams ∷ f .topSeconds ∷ [])
 
 -- and of a D record
 abbrev pub doseBytes : orders.Dose → List ℕ

@@ -1,4 +1,4 @@
-// The records of an order (document 01, "Records"): F and D, read and written.
+// The records of an order (document 01, "Records"; document 02, C-16: the rule): F and D, read and written.
 use crate::DOSE_KIND;
 use crate::FANS_KIND;
 use crate::number::blank;
@@ -19,9 +19,10 @@ ghost use Rattle.model.specs.Orders.{fansOf, doseOf};
 ghost use Rattle.records.specs.Written.{written};
 ghost use Rattle.records.specs.Held.{asFans, asDose, fansBytes, doseBytes};
 
-// "F (0x46) fans: 1 number of fans, 1 to 8; 4-7 top grams, 8-11 top seconds, each 1 to 1,000,000"
+// "F (0x46) fans: 1 number of fans, 1 to 8; 4-7 top grams, 8-11 top seconds, each 1 to 1,000,000"; "Byte 2 of F .. names the rule", 0 or 1
 pub struct Fans {
     pub fans: u32,
+    pub rule: u32,
     pub top_grams: u32,
     pub top_seconds: u32,
 }
@@ -41,6 +42,7 @@ pub fn fans_in(r: &[u8]) -> Fans
 {
     Fans {
         fans: read8(r, 1),
+        rule: read8(r, 2),
         top_grams: read32(r, 4),
         top_seconds: read32(r, 8),
     }
@@ -64,7 +66,7 @@ pub fn fans_blank(r: &[u8]) -> bool
     requires { ⌜ length (now r) ≡ recordSize ⌝ }
     ensures { λ t. ⌜ t ≡ blankAt fansParts (now (r .entry)) 0 ⌝ }
 {
-    both(blank(r, 2, 2), blank(r, 12, 20))
+    both(blank(r, 3, 1), blank(r, 12, 20))
 }
 
 // And in a D record.
@@ -82,7 +84,8 @@ pub fn put_fans(b: &mut [u8], at: usize, f: Fans)
 {
     put8(b, at, FANS_KIND);
     put8(b, at + 1, f.fans);
-    put_blank(b, at + 2, 2);
+    put8(b, at + 2, f.rule);
+    put_blank(b, at + 3, 1);
     put_pair(b, at + 4, f.top_grams, f.top_seconds);
     put_blank(b, at + 12, 20);
 }

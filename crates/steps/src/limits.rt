@@ -3,6 +3,10 @@ pub const MOST_FANS: u32 = 8;
 
 pub const MOST_TOP: u32 = 1000000;
 
+pub const LAST_RULE: u32 = 1;
+
+pub const VALVE_REST: u32 = 300;
+
 pub const MOST_BAY: u32 = 999;
 
 pub const LAST_OPEN_BAY: u32 = 899;

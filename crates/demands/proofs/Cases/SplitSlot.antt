@@ -11,7 +11,7 @@ use Rattle.model.specs.Limits.{mostBay, planRoom}
 use Rattle.model.specs.Sets.{Doses, sum, weight}
 use Rattle.model.specs.Lists.{total, All, none, also, Pairs, lone, then}
 use Rattle.model.specs.Records.{read, numberAt, numberBytes, fieldsAt, blankAt, recordBytes, readFrom}
-use Rattle.model.specs.Orders.{Order, doseAt, entryOf, fansIn, dosesIn, clashesAny, noClash, restOf, orderOf, readOrder}
+use Rattle.model.specs.Orders.{Order, doseAt, entryOf, fansIn, dosesIn, clashesAny, noClash, orderOf, readOrder}
 use Rattle.model.specs.Classes.{P, openFans, free, classP}
 use Rattle.model.specs.Intervals.{insert, instants, settingOf, fansPresent}
 use Rattle.model.specs.Plans.{Class, planOf, planRecordBytes, recordsBytes}
@@ -33,6 +33,7 @@ P1 = oneFan 1000 1
 abbrev pub o : Order
 o = record {
   fans = 1;
+  rest = 0;
   topGrams = 1000;
   topSeconds = 1;
   doses = record { bay = 1; release = 0; deadline = 10; grams = 20 } ∷ record { bay = 2; release = 0; deadline = 4; grams = 16 } ∷ [];
@@ -147,7 +148,7 @@ right = head cases-right
 
 -- P1's bytes read as the order, which is accepted
 pub reads : readOrder mostBay (P1 .order) ≡ read o
-unfolding readOrder orderOf readFrom entryOf fieldsAt blankAt numberAt numberBytes recordBytes fansIn dosesIn clashesAny noClash restOf
+unfolding readOrder orderOf readFrom entryOf fieldsAt blankAt numberAt numberBytes recordBytes fansIn dosesIn clashesAny noClash
 reads = refl
 
 accepts : Accepts mostBay (P1 .order) o

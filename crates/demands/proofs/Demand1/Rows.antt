@@ -4,16 +4,14 @@ use mathlib.Core.Path.{_≡_, _∙_, ap, refl, sym}
 use mathlib.Core.List.{List}
 use Prim.Native.Nat.{ℕ, _≤_, _<_}
 use lib.ListN.{length}
-use native.Mathlib.Omega.{arith}
 use Rattle.model.specs.Limits.{lastOpenBay, mostBay, planRoom, week}
 use Rattle.model.specs.Records.{read}
-use Rattle.model.specs.Orders.{Order, readOrder, Dose, doseAt, restOf}
+use Rattle.model.specs.Orders.{Order, readOrder, doseAt}
 use Rattle.model.specs.Intervals.{settingOf}
 use Rattle.model.specs.Stands.{Stands}
 use Rattle.model.specs.Log.{Logged, readLog}
 use Rattle.model.specs.Answers.{Accepts, Answer, Drawn, Draws, Judges, Laid, Lays, Planned, Plans, Refuses, above, laidBy, lineOf, refusal, tooFast, unread}
 use Rattle.model.proofs.Given.{Given, given-exactly, bay, blank, kind, many-doses, not-one-fans, overlapping, range, wrong-length, wrong-record}
-use Rattle.model.proofs.Rests.{Overlap}
 use Rattle.demands.proofs.Demand2.Refusing.{TooFast}
 use Rattle.demands.proofs.Demand1.ByOrder.{OfOrder, order-accepted, order-refused}
 use Rattle.model.proofs.Answers.{draws-one, judges-one, lays-one}
@@ -33,14 +31,6 @@ row-place (wrong-record n i r (bay k)) a b c d e = absurd (e refl)
 row-place (not-one-fans es g h) a b c d e = refl
 row-place (many-doses es g one h) a b c d e = refl
 row-place (overlapping es g one few i o none) a b c d e = absurd (d refl)
-
--- an order asks for no rest: two of its doses overlap if they are of one bay and each window opens before the other ends
-pub no-rest : (o : Order) (x y : Dose) → Overlap (restOf o) x y ↔ ((x .bay ≡ y .bay) × (x .release < y .deadline) × (y .release < x .deadline))
-unfolding restOf
-no-rest o x y = (
-  λ h. (h .bay, omega (arith, h .opens), omega (arith, h .closes)),
-  λ h. record { bay = h .0; opens = omega (arith, h .1); closes = omega (arith, h .2) },
-)
 
 -- ---- the rows
 

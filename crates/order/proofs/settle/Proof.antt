@@ -2,10 +2,8 @@
 use Prim.Native.Nat.{ℕ}
 use mathlib.Core.Path.{_≡_, refl, sym, ap, _∙_}
 use borrow.Author.Tests.{eq-eqb, ne-eqb, le-leb, lt-leb, le-ltb, lt-ltb}
-use Rattle.model.specs.Orders.{restOf}
 use Rattle.order.specs.declared.Gathered.{Gathered}
 use Rattle.order.specs.declared.Reading.{Reading}
-use Rattle.order.specs.Held.{asOrder}
 use Rattle.order.specs.Gathered.{firstClash, clashed, settled, refusedReading}
 use Rattle.order.proofs.Cases.{at-off, at-on}
 use borrow.Author.Needs.{needs}
@@ -13,9 +11,9 @@ use Rattle.order.proofs.settle.Statement.{statement}
 use Rattle.order.proofs.settle.Tie as tie
 
 -- the answer for dose k is that for the first clash, which k is
-first-by-rest : (s : Gathered) {r : Reading} {k rest : ℕ} → rest ≡ restOf (asOrder (s .order)) → k ≡ firstClash rest (s .order) → r ≡ clashed s k
-    → r ≡ clashed s (firstClash (restOf (asOrder (s .order))) (s .order))
-first-by-rest s q p h = h ∙ ap (clashed s) (p ∙ ap (λ (n : ℕ). firstClash n (s .order)) q)
+first-by-rest : (s : Gathered) {r : Reading} {k : ℕ} → k ≡ firstClash (s .order .rest) (s .order) → r ≡ clashed s k
+    → r ≡ clashed s (firstClash (s .order .rest) (s .order))
+first-by-rest s p h = h ∙ ap (clashed s) p
 
 refuse-requires : tie.Need-refuse-requires
 refuse-requires c κs = search needs
@@ -33,9 +31,6 @@ returns-2 c =
     at-on (λ (r : Reading). r) _ _ (sym (eq-eqb _ _ (c .before .before .if1 .left)))
     (at-off (λ (r : Reading). r) _ _ (sym (lt-leb _ _ (c .before .if2 .taken))) (c .refuse2 .ensures))
 
-rest-of-requires : tie.Need-rest-of-requires
-rest-of-requires c κs = search needs
-
 first-clash-requires : tie.Need-first-clash-requires
 first-clash-requires c κs = search needs
 
@@ -52,9 +47,9 @@ returns-3 : tie.Need-returns-3
 unfolding settled
 returns-3 c =
     let b = c .before .before .before .before .before in
-    at-on (λ (r : Reading). r) _ _ (sym (eq-eqb _ _ (b .before .before .before .before .if1 .left)))
-    (at-on (λ (r : Reading). r) _ _ (sym (le-leb _ _ (b .before .before .before .if2 .left)))
-    (first-by-rest (b .before .before .before .before .before .args .t1) (b .before .rest-of .ensures) (b .first-clash .ensures)
+    at-on (λ (r : Reading). r) _ _ (sym (eq-eqb _ _ (b .before .before .before .if1 .left)))
+    (at-on (λ (r : Reading). r) _ _ (sym (le-leb _ _ (b .before .before .if2 .left)))
+    (first-by-rest (b .before .before .before .before .args .t1) (b .first-clash .ensures)
     (at-on (λ (r : Reading). r) _ _ (sym (lt-ltb _ _ (c .before .before .before .if3 .taken)))
     (c .refuse3 .ensures ∙ ap (refusedReading 8) (c .before .from-byte .ensures)))))
 
@@ -62,9 +57,9 @@ returns-4 : tie.Need-returns-4
 unfolding settled
 returns-4 c =
     let b = c .before .before in
-    at-on (λ (r : Reading). r) _ _ (sym (eq-eqb _ _ (b .before .before .before .before .if1 .left)))
-    (at-on (λ (r : Reading). r) _ _ (sym (le-leb _ _ (b .before .before .before .if2 .left)))
-    (first-by-rest (b .before .before .before .before .before .args .t1) (b .before .rest-of .ensures) (b .first-clash .ensures)
+    at-on (λ (r : Reading). r) _ _ (sym (eq-eqb _ _ (b .before .before .before .if1 .left)))
+    (at-on (λ (r : Reading). r) _ _ (sym (le-leb _ _ (b .before .before .if2 .left)))
+    (first-by-rest (b .before .before .before .before .args .t1) (b .first-clash .ensures)
     (at-off (λ (r : Reading). r) _ _ (sym (le-ltb _ _ (c .if3 .left))) refl)))
 
 pub settle-spec : {M : Type 1} → statement M
@@ -75,7 +70,6 @@ settle-spec =
     returns
     refuse-requires-2
     returns-2
-    rest-of-requires
     first-clash-requires
     element-copy-out-from-byte
     from-byte-requires

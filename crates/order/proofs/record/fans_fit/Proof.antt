@@ -1,5 +1,4 @@
--- `fans_fit` meets its contract: fans, top grams and top seconds are asked in turn, each for its range.
-use Rattle.order.proofs.Cases.{was-off, was-on, and-off, and-on}
+-- `fans_fit` meets its contract: fans, rule, top grams and top seconds, each asked for its range.
 use borrow.Author.Needs.{needs}
 use Rattle.order.proofs.record.fans_fit.Statement.{statement}
 use Rattle.order.proofs.record.fans_fit.Tie as tie
@@ -7,28 +6,37 @@ use Rattle.order.proofs.record.fans_fit.Tie as tie
 inside-requires : tie.Need-inside-requires
 inside-requires c κs = search needs
 
-returns : tie.Need-returns
-returns c = and-off _ (and-off _ (was-off (c .before .inside .ensures) (c .if1 .taken)))
-
 inside-requires-2 : tie.Need-inside-requires-2
 inside-requires-2 c κs = search needs
-
-returns-2 : tie.Need-returns-2
-returns-2 c =
-    let second = c .before in
-    let first = second .before .before in
-    and-off _ (and-on (was-on (first .inside .ensures) (second .before .if1 .left)) (was-off (second .inside2 .ensures) (c .if2 .taken)))
 
 inside-requires-3 : tie.Need-inside-requires-3
 inside-requires-3 c κs = search needs
 
-returns-3 : tie.Need-returns-3
-returns-3 c =
-    let second = c .before .before in
-    let first = second .before .before in
-    and-on (and-on (was-on (first .inside .ensures) (second .before .if1 .left)) (was-on (second .inside2 .ensures) (c .before .if2 .left))) (c .inside3 .ensures)
+both-requires : tie.Need-both-requires
+both-requires c κs = search needs
+
+both-requires-2 : tie.Need-both-requires-2
+both-requires-2 c κs = search needs
+
+both-requires-3 : tie.Need-both-requires-3
+both-requires-3 c κs = search needs
+
+returns : tie.Need-returns
+returns c =
+    let first-two = c .before .before in
+    let seconds = first-two .before in
+    let grams = seconds .before in
+    let fans = grams .before .before in
+    rw (c .both3 .ensures, c .before .both2 .ensures, first-two .both .ensures, seconds .inside3 .ensures, grams .inside2 .ensures, fans .inside .ensures)
 
 pub fans-fit-spec : {M : Type 1} → statement M
 fans-fit-spec =
     tie.close
-    (tie.spec inside-requires returns inside-requires-2 returns-2 inside-requires-3 returns-3)
+    (tie.spec
+    inside-requires
+    inside-requires-2
+    inside-requires-3
+    both-requires
+    both-requires-2
+    both-requires-3
+    returns)

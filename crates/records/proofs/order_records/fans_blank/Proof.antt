@@ -1,4 +1,4 @@
--- `fans_blank` meets its contract: bytes 2 and 3, and the bytes from 12 on, are asked to be zero.
+-- `fans_blank` meets its contract: byte 3, and the bytes from 12 on, are asked to be zero.
 use mathlib.Core.Bool.{and-true}
 use Rattle.model.specs.Records.{blankAt}
 use borrow.Author.Needs.{needs}

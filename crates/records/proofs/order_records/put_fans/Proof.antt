@@ -1,4 +1,4 @@
--- `put_fans` meets its contract: the kind, the fans, two zeros, the top rate and 20 zeros, one behind the other, are the 32 bytes of an F.
+-- `put_fans` meets its contract: the kind, the fans, the rule, a zero, the top rate and 20 zeros, one behind the other, are the 32 bytes of an F.
 use mathlib.Core.Path.{refl}
 use Rattle.model.specs.Records.{numberBytes, recordBytes}
 use Rattle.records.proofs.Laws.{join}
@@ -14,6 +14,12 @@ add-put8 c = search needs
 
 put8-requires-2 : tie.Need-put8-requires-2
 put8-requires-2 c κs = search needs
+
+add-put8-2 : tie.Need-add-put8-2
+add-put8-2 c = search needs
+
+put8-requires-3 : tie.Need-put8-requires-3
+put8-requires-3 c κs = search needs
 
 add-put-blank : tie.Need-add-put-blank
 add-put-blank c = search needs
@@ -42,10 +48,12 @@ returns c =
     let zeros = c .before .before in
     let rate = zeros .before .before .before .before in
     let gap = rate .before .before .before .before in
-    let fans = gap .before .before .before .before in
+    let rule = gap .before .before .before .before in
+    let fans = rule .before .before .before .before in
     let kind = fans .before .before .before .before in
-    let head = join _ _ _ _ (join _ _ _ _ (kind .put8 .ensures) (fans .put82 .ensures) refl) (gap .put-blank .ensures) refl in
-    join _ _ _ _ (join _ _ _ _ head (rate .put-pair .ensures) refl) (zeros .put-blank2 .ensures) refl
+    let head = join _ _ _ _ (join _ _ _ _ (kind .put8 .ensures) (fans .put82 .ensures) refl) (rule .put83 .ensures) refl in
+    let named = join _ _ _ _ (join _ _ _ _ head (gap .put-blank .ensures) refl) (rate .put-pair .ensures) refl in
+    join _ _ _ _ named (zeros .put-blank2 .ensures) refl
 
 pub put-fans-spec : {M : Type 1} → statement M
 put-fans-spec =
@@ -54,6 +62,8 @@ put-fans-spec =
     put8-requires
     add-put8
     put8-requires-2
+    add-put8-2
+    put8-requires-3
     add-put-blank
     put-blank-requires
     add-put-pair
