@@ -81,6 +81,7 @@ class Library:
 @dataclass(frozen=True)
 class Fans:
     count: int
+    rule: int
     top_grams: int
     top_seconds: int
 
@@ -150,7 +151,7 @@ class Meter:
 
 
 # Each kind's first byte, and how its fields stand in the other 31: docs/RULES.md, "Records".
-LAYOUT = {Fans: (b"F", Struct("<B2xII20x")), Dose: (b"D", Struct("<xHIII16x")),
+LAYOUT = {Fans: (b"F", Struct("<BBxII20x")), Dose: (b"D", Struct("<xHIII16x")),
           Class: (b"C", Struct("<BHII20x")), Slot: (b"S", Struct("<BHIIIIIIB3x")), Meter: (b"M", Struct("<BHII20x"))}
 KINDS = {byte: kind for kind, (byte, _) in LAYOUT.items()}
 MOST = {kind: rest.unpack(b"\xff" * rest.size) for kind, (_, rest) in LAYOUT.items()}  # what each field can hold

@@ -14,14 +14,15 @@ from pathlib import Path
 from .figures import clock, plain, seconds_in, whole_in
 from .library import MOST, RECORD, Dose, Fans, read_records, write_record
 
-ROWS = {Dose: ("dose", ("bay", "start", "done", "grams")), Fans: ("fans", ("fans", "top grams", "top seconds"))}
+ROWS = {Dose: ("dose", ("bay", "start", "done", "grams")), Fans: ("fans", ("fans", "rule", "top grams", "top seconds"))}
 KINDS = {name: kind for kind, (name, _) in ROWS.items()}
-COLUMNS = ("row", *(column for _, columns in ROWS.values() for column in columns))
+UNSAID = {"rule": "0"}  # what an empty cell means, or none: older texts read as they did
+COLUMNS = ("row", *(column for _, columns in ROWS.values() for column in columns if column not in UNSAID), *UNSAID)
 TIMES = ("start", "done")
 # Words only: whether a value is in range is the library's to say.
 RANGES = {"bay": "1 to 999", "start": "0 to 604,799, which is Sun 23:59:59",
           "done": "a second after the start up to 604,800, which is Sun 24:00", "grams": "1 to 1,000,000",
-          "fans": "1 to 8", "top grams": "1 to 1,000,000", "top seconds": "1 to 1,000,000"}
+          "fans": "1 to 8", "rule": "0 or 1", "top grams": "1 to 1,000,000", "top seconds": "1 to 1,000,000"}
 
 
 class Wrong(Exception):
@@ -88,12 +89,13 @@ def rows_of(text: str) -> Iterator[tuple[int, list[str]]]:
 
 
 def write_text(order: Order) -> str:
-    """The text of an order whose records the reader takes."""
-    rows = [COLUMNS]
+    """The text of an order whose records the reader takes: without rules where all are 0, as it was before them."""
+    said = [column for column in COLUMNS if column != "rule" or any(fans.rule for fans in order.fans)]
+    rows = [said]
     for record in order.records:
         name, columns = ROWS[type(record)]
         cells = {column: order.cell(column, value) for column, value in zip(columns, astuple(record))}
-        rows.append([name, *(cells.get(column, "") for column in COLUMNS[1:])])
+        rows.append([name, *(cells.get(column, "") for column in said[1:])])
     return "".join(",".join(row) + "\n" for row in rows)
 
 
@@ -130,7 +132,8 @@ def record_of(line: int, columns: list[str], cells: list[str]) -> Fans | Dose:
     for column, cell in row.items():
         if column not in own:
             raise wrong(line, column, f"{cell!r} is not for a row of {name}")
-    return kind(*(value_of(line, column, row.get(column, ""), most) for column, most in zip(own, MOST[kind])))
+    return kind(*(value_of(line, column, row.get(column, UNSAID.get(column, "")), most)
+                  for column, most in zip(own, MOST[kind])))
 
 
 def value_of(line: int, column: str, cell: str, most: int) -> int:

@@ -14,7 +14,7 @@ from .library import RECORD, Class, Dose, Slot
 from .logs import Log, Stretch
 from .orders import Order
 from .plans import Plan
-from .words import FACTS, Refusal, log_facts, sentence
+from .words import REST, Refusal, log_facts, sentence
 
 STYLES = {name: Path(__file__).with_name(f"{name}.css").read_text("utf-8") for name in ("drawing", "page")}
 LEAD = """<p><b>Each gram on a line has a fan behind it.</b> A line rises only above a bar, and the number in the bar is
@@ -184,6 +184,8 @@ def planned_page(plan: Plan, logs: Sequence[Log] = ()) -> str:
              ("fan time", f"{sum(own.time for own in classes):,} fan-seconds"), ("classes", len(classes)),
              ("slots", f"{len(plan.slots):,}"), ("first class", rate(classes[0].rate) if classes else "none"),
              ("top rate", rate(plan.fans.top_rate))]
+    if plan.fans.rule:
+        facts.append(("valves rest", f"{REST} s"))  # so short that the head stays one line on paper
     body = f"<p>No dose is ordered, and no fan runs.</p>{PROVED}"
     if classes:
         rows = Rows(plan, 200)
@@ -231,6 +233,6 @@ def refused_page(refusal: Refusal, order: Order) -> str:
         rows = (window_row(axis, number, order.doses[number]) for number in refusal.doses)
         body += defs(axis) + section(axis, "dose", rows, "named")
     facts = [("order", escape(Path(order.name).name)), ("refusal", answer.number),
-             ("what is wrong", f"<b>{FACTS[answer.number]}</b>")]
+             ("what is wrong", f"<b>{refusal.fact}</b>")]
     title = TITLES.get(answer.number, "no plan for this order")
     return page(f"Refused: {title}", facts, body + REFUSED)

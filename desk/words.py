@@ -5,7 +5,7 @@ What is wrong where is asked of the library.
 from __future__ import annotations
 
 from collections.abc import Callable
-from dataclasses import astuple, dataclass
+from dataclasses import astuple, dataclass, replace
 from fractions import Fraction
 from textwrap import fill
 
@@ -23,7 +23,7 @@ FACTS = {
     5: "A field is out of range.",
     6: "An order has exactly one record of fans.",
     7: "An order has at most 24 doses.",
-    8: "The windows of two doses of one bay overlap.",
+    8: "The windows of two doses of one bay overlap, or the rest between them is too short.",
     9: "No plan keeps to the top rate.",
     10: "These plan bytes do not stand for the order.",
     11: "There is no such dose.",
@@ -33,21 +33,24 @@ FACTS = {
     15: "Trial bays, 900 to 999, are closed: a new order that names one is not planned.",
     16: "A stream is whole records of 32 bytes, at most 2,048 of them, and begins with fans (F).",
 }
+OVERLAP, SHORT = "The windows of two doses of one bay overlap.", "The rest between two doses of one bay is too short."
+REST = 300  # seconds by rule 1; words only, as the ranges are
 LINES = 24  # of a dose in words
-GOOD = {Dose: Dose(1, 0, WEEK, 1), Fans: Fans(1, 1, 1)}
+GOOD = {Dose: Dose(1, 0, WEEK, 1), Fans: Fans(1, 0, 1, 1)}
 
 
 @dataclass
 class Refusal(Exception):
     """What a refusal's number says, what that is of this order, and what it names."""
     answer: Answer | AddedUp
+    fact: str
     detail: list[str]
     doses: list[int]
     record: bytes
     wrong_bytes: list[int]
 
     def __str__(self) -> str:
-        return "\n".join([f"refused {self.answer.number}: {FACTS[self.answer.number]}", *map(sentence, self.detail)])
+        return "\n".join([f"refused {self.answer.number}: {self.fact}", *map(sentence, self.detail)])
 
 
 def sentence(words: str) -> str:
@@ -71,6 +74,7 @@ def check(answer: Answer, order: Order, library: Library, log: Log | None = None
     number, at, doses, data, wrong_bytes = answer.number, answer.place, [], b"", []
     if number == 0:
         return
+    fact = FACTS[number]
     fans = listed([order.place(i) for i, record in enumerate(order.records) if isinstance(record, Fans)])
     detail = {2: [f"this one has {count(len(order.data), 'byte')}"], 6: [f"this one has {fans or 'none'}"],
               7: [f"this one has {len(order.doses)}"],
@@ -84,14 +88,14 @@ def check(answer: Answer, order: Order, library: Library, log: Log | None = None
         doses = [order.places.index(at)]
         detail = [f"record {at}, counted from 0: {window_words(order, doses[0])}"]
     elif number == 8:
-        detail, doses = overlap(order, order.places.index(at), library)
+        fact, detail, doses = clash(order, order.places.index(at), library)
     elif number == 9:
         detail, doses = too_fast(answer, order)
     elif number in (13, 14):
         data = log.data[RECORD * at:RECORD * (at + 1)]
         said, wrong_bytes = wrong_log(log, data)
         detail = [said]
-    raise Refusal(answer, detail, doses, data, wrong_bytes)
+    raise Refusal(answer, fact, detail, doses, data, wrong_bytes)
 
 
 def check_season(season: AddedUp, stream: bytes, library: Library) -> None:
@@ -99,7 +103,7 @@ def check_season(season: AddedUp, stream: bytes, library: Library) -> None:
     if season.number:
         length = library.season(b"F" + stream[1:]).number
         wrong = f"it has {count(len(stream), 'byte')}" if length else f"its first byte is {stream[0]:02x}, not 46 (F)"
-        raise Refusal(season, [wrong], [], b"", [])
+        raise Refusal(season, FACTS[season.number], [wrong], [], b"", [])
 
 
 def wrong_record(number: int, order: Order, at: int, library: Library) -> tuple[str, list[int]]:
@@ -173,12 +177,25 @@ def check_text(order: Order, library: Library) -> None:
         raise Wrong(f"{order.name}: {words}")
 
 
-def overlap(order: Order, dose: int, library: Library) -> tuple[list[str], list[int]]:
-    """A dose, and the earlier ones that are refused 8 with it alone."""
-    pairs = {other: (order.fans[0], order.doses[other], order.doses[dose]) for other in range(dose)}
-    others = [other for other, pair in pairs.items() if library.judge(b"".join(map(write_record, pair))).number == 8]
-    windows = listed([window_words(order, other) for other in others])
-    return [window_words(order, dose), f"it overlaps {windows}"], [*others, dose]
+def clash(order: Order, dose: int, library: Library) -> tuple[str, list[str], list[int]]:
+    """A dose, and the earlier ones that are refused 8 with it alone. Those that overlap it are so by rule 0 too."""
+    own, fans = order.doses[dose], order.fans[0]
+
+    def refused(by: Fans) -> list[int]:
+        pairs = {other: (by, order.doses[other], own) for other in range(dose)}
+        return [other for other, pair in pairs.items() if library.judge(b"".join(map(write_record, pair))).number == 8]
+    others, over = refused(fans), refused(replace(fans, rule=0))
+    near = [f"{rest_words(own, order.doses[other])} {window_words(order, other)}"
+            for other in others if other not in over]
+    said = [f"it overlaps {listed([window_words(order, other) for other in over])}"] if over else []
+    said += [f"it is {listed(near)}; the valve must rest {REST} s between doses"] if near else []
+    return OVERLAP if over else SHORT, [window_words(order, dose), *said], [*others, dose]
+
+
+def rest_words(one: Dose, other: Dose) -> str:
+    """How far a window is from another that it does not overlap."""
+    after = one.release - other.deadline
+    return f"{after:,} s after" if after >= 0 else f"{other.release - one.deadline:,} s before"
 
 
 def too_fast(answer: Answer, order: Order) -> tuple[list[str], list[int]]:
@@ -200,6 +217,8 @@ def plan_words(plan: Plan) -> str:
     top = f"{count(plan.fans.count, 'fan')}, top rate {rate(plan.fans.top_rate)}"
     sizes = f"{count(len(plan.classes), 'class')}, {count(len(plan.slots), 'slot')}"
     words = [f"{count(len(plan.order.doses), 'dose')} on {top}: {weight:,} g in {time:,} fan-seconds, {sizes}", ""]
+    if plan.fans.rule:
+        words.insert(1, f"valves rest {REST} s between doses of a bay")
     for own in plan.classes:
         doses = sorted({slot.dose for slot in plan.slots if slot.class_number == own.number})
         named = listed([dose_words(plan.order, dose) for dose in doses])
