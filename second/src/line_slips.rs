@@ -3,7 +3,8 @@
 use crate::answers::House;
 use crate::layout::Slot;
 use crate::line::{class_of, Point, State};
-use crate::slips::{Slip::*, Slipped};
+use crate::slipped::Slipped;
+use crate::slips::Slip::*;
 
 impl Slipped {
     fn amount(&self, house: &House, slots: &[Slot], dose: usize, tick: u32) -> Option<u64> {

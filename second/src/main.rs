@@ -48,6 +48,8 @@ mod seconds;
 mod selftest;
 mod shares;
 #[cfg(feature = "errors")]
+mod slipped;
+#[cfg(feature = "errors")]
 mod slips;
 mod stands;
 mod streams;

@@ -4,7 +4,8 @@ use crate::answers::House;
 use crate::library::{Judged, Season};
 use crate::orders::{number, TrialBays, LONGEST_ORDER, RECORD};
 use crate::season::{above, orders, Figures, Rate, LONGEST_STREAM, NONE, REFUSED};
-use crate::slips::{Slip::*, Slipped};
+use crate::slipped::Slipped;
+use crate::slips::Slip::*;
 
 /// Where the records of kind F begin.
 fn fans(stream: &[u8]) -> Vec<usize> {

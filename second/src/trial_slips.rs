@@ -1,7 +1,8 @@
 //! Test builds only: the errors about trial bays that look right, built into a copy of the reader.
 
 use crate::orders::{number, put, read, Order, Refusal, TrialBays, FIRST_TRIAL_BAY, LAST_BAY, RECORD};
-use crate::slips::{Slip::*, Slipped};
+use crate::slipped::Slipped;
+use crate::slips::Slip::*;
 
 /// The fault of one record: 3, 4 or 5.
 fn fault(record: &[u8]) -> Option<u32> {
