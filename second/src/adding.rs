@@ -18,9 +18,9 @@ const STORED: [(&[u8], &str); 2] = [
 ];
 
 /// Orders accepted, the numbers of those refused, grams, fan-seconds, W and P.
-type Sheet<'a> = (u32, &'a [usize], u64, u64, Rate);
+pub type Sheet<'a> = (u32, &'a [usize], u64, u64, Rate);
 
-fn sheet((accepted, refused, grams, seconds, (weight, time)): Sheet) -> Season {
+pub fn sheet((accepted, refused, grams, seconds, (weight, time)): Sheet) -> Season {
     let mut season = Season { accepted, grams, seconds, weight, time, ..Season::default() };
     refused.iter().for_each(|&number| season.refused[number] += 1);
     season
@@ -165,7 +165,7 @@ pub fn cuts(c: &mut Checks) {
         let bytes = with(&one, &[(2 * RECORD, kind)]);
         c.season(&format!("kind {kind} last"), &[&bytes[..], &one].concat(), with_p1(3));
     }
-    for (number, at, value) in [(5, 1, 0), (5, 1, 9), (4, 2, 1), (4, 31, 70), (5, 11, 1)] {
+    for (number, at, value) in [(5, 1, 0), (5, 1, 9), (5, 2, 2), (4, 3, 1), (4, 31, 70), (5, 11, 1)] {
         let bytes = [with(&one, &[(at, value)]), one.clone()].concat();
         c.season(&format!("{number}: byte {at} of an F"), &bytes, with_p1(number));
     }
@@ -176,7 +176,7 @@ pub fn cuts(c: &mut Checks) {
     c.season("24 doses before P1", &[&row(24)[..], &one].concat(), sheet((2, &[], 60, 34, (16, 4))));
     c.season("one bay in two orders", &one.repeat(2), sheet((2, &[], 72, 20, (16, 4))));
     c.season("each its own top rate", &[write(&p1((3, 1)), 0), write(&p1((4, 1)), 0)].concat(), with_p1(9));
-    let fan = fan_record(2, 1_000, 1);
+    let fan = fan_record(2, 0, 1_000, 1);
     c.season("each its own fans", &[&one[..], &fan, &one[RECORD..]].concat(), sheet((2, &[], 72, 24, (16, 4))));
 }
 

@@ -3,16 +3,18 @@
 use crate::answers::{accept, refusal};
 use crate::checks::Checks;
 use crate::library::{Drawn, Judged, DOSING, FINISHED, IDLE, SHUT};
-use crate::orders::{number, write, Dose, Order, TrialBays, FIRST_TRIAL_BAY, LAST_BAY, RECORD};
+use crate::orders::{number, write, Dose, Order, TrialBays, FIRST_TRIAL_BAY, LAST_BAY, RECORD, REST};
 use crate::printer;
+use crate::refusals::with;
 
 type Window = (u32, u32, u32);
 
 pub const TOP: (u32, u32) = (1_000, 1);
 
+/// An order by rule 0, each dose in a bay of its own.
 pub fn order(fans: u32, top: (u32, u32), windows: &[Window]) -> Order {
     let doses = windows.iter().zip(1..).map(|(&(release, deadline, grams), bay)| Dose { bay, release, deadline, grams });
-    Order { fans, top_grams: top.0, top_seconds: top.1, doses: doses.collect() }
+    Order { fans, top_grams: top.0, top_seconds: top.1, rest: 0, doses: doses.collect() }
 }
 
 pub fn p1(top: (u32, u32)) -> Order {
@@ -60,7 +62,7 @@ pub fn examples() -> Vec<(&'static str, Vec<u8>)> {
     named
 }
 
-/// The examples' orders, the samples and the edges of the trial bays, as the first cases of every comparison.
+/// The examples' orders, the samples, the edges of the trial bays and faults of the rest, as the first cases of every comparison.
 pub fn fixed() -> Vec<Vec<u8>> {
     let mut list = vec![order(1, TOP, &[(0, 4, 0)]), order(1, TOP, &[(0, 4, 1_000_001)]), order(1, TOP, &[(0, 4, 1); 25])];
     // Two rates that differ by 1 part in 3 x 10^11.
@@ -74,6 +76,10 @@ pub fn fixed() -> Vec<Vec<u8>> {
         one.doses[0].bay = bay;
         bytes.push(write(&one, 0));
     }
+    // Byte 2 of F above 1, also with byte 3; and three doses of a bay, of which the last in the file is too near the first alone.
+    let right = write(&p1(TOP), 0);
+    bytes.extend([with(&right, &[(2, 2)]), with(&right, &[(2, 2), (3, 1)])]);
+    bytes.push(write(&Order { rest: REST, ..one_bay(&[(0, 4, 10), (900, 904, 10), (303, 307, 10)]) }, 3));
     bytes
 }
 

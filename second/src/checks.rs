@@ -6,7 +6,7 @@ use crate::library::{Drawn, Judged, Laid, Peer, Planned, Season};
 use crate::meter::RAGGED;
 use crate::orders::RECORD;
 use crate::random::Random;
-use crate::{adding, cases, closing, drawing, feeding, laying, refusals, verdicts};
+use crate::{adding, cases, closing, drawing, feeding, laying, refusals, resting, verdicts};
 use std::fmt::Debug;
 
 pub struct Checks<'a> {
@@ -111,7 +111,7 @@ impl Checks<'_> {
 /// A name, and the checks behind it.
 type Group = (&'static str, fn(&mut Checks));
 
-const GROUPS: [Group; 23] = [
+const GROUPS: [Group; 27] = [
     ("planning: P1 to P12", cases::proved),
     ("planning: the run line", cases::run_line),
     ("refusals: 1 to 9, each alone", refusals::alone),
@@ -135,6 +135,10 @@ const GROUPS: [Group; 23] = [
     ("season: 16, and what is none", adding::refused),
     ("season: where a stream is cut", adding::cuts),
     ("season: the greatest first class", adding::greatest),
+    ("valve rest: about 300 seconds", resting::edges),
+    ("valve rest: 8's place", resting::places),
+    ("valve rest: byte 2 of F, with other faults", resting::rules),
+    ("valve rest: plans, samples and streams", resting::others),
 ];
 
 /// Runs every group; true if no check failed.

@@ -155,10 +155,10 @@ fn in_others(c: &mut Checks) {
             otherwise(c, &format!("{kind} behind, in record {record}"), &with(&four(), &[fault(kind, record)]), 2, refusal(kind, record));
         }
     }
-    for (kind, at, value) in [(3, 0, 0), (4, 2, 1), (5, 1, 0)] {
-        c.refused(&format!("{kind} in F, first"), &with(&four(), &[(at, value)]), refusal(kind, 0));
+    for (kind, at, value) in [(3, 0, 0), (4, 3, 1), (5, 1, 0), (5, 2, 2)] {
+        c.refused(&format!("{kind} in F, byte {at}, first"), &with(&four(), &[(at, value)]), refusal(kind, 0));
         let last = write(&row(&[10, BETWEEN, 30, 40]), 4);
-        otherwise(c, &format!("{kind} in F, last"), &with(&last, &[(4 * RECORD + at, value)]), 1, refusal(kind, 4));
+        otherwise(c, &format!("{kind} in F, byte {at}, last"), &with(&last, &[(4 * RECORD + at, value)]), 1, refusal(kind, 4));
     }
     c.refused("bay 1,000 before", &write(&row(&[LAST_BAY + 1, LAST_BAY]), 0), refusal(5, 1));
     otherwise(c, "bay 1,000 behind", &write(&row(&[LAST_BAY, LAST_BAY + 1]), 0), 1, refusal(5, 2));
@@ -173,8 +173,8 @@ fn of_orders(c: &mut Checks) {
     }
     c.refused("2 before 15: 1,632 bytes", &write(&row(&[BETWEEN; 50]), 0), refusal(2, 0));
     otherwise(c, "6: no F", &good[RECORD..], 1, refusal(6, 0));
-    otherwise(c, "6: two F", &[&good[..], &fan_record(1, 1, 1)].concat(), 2, refusal(6, 0));
-    otherwise(c, "6: two F in front", &[&fan_record(1, 1, 1), &good[..]].concat(), 3, refusal(6, 0));
+    otherwise(c, "6: two F", &[&good[..], &fan_record(1, 0, 1, 1)].concat(), 2, refusal(6, 0));
+    otherwise(c, "6: two F in front", &[&fan_record(1, 0, 1, 1), &good[..]].concat(), 3, refusal(6, 0));
     let bays: Vec<u32> = (1..25).collect();
     otherwise(c, "7: the first of 25 doses", &write(&row(&[&[LAST_BAY], &bays[..]].concat()), 25), 0, refusal(7, 0));
     otherwise(c, "7: the last of 25 doses", &write(&row(&[&bays[..], &[LAST_BAY]].concat()), 0), 25, refusal(7, 0));

@@ -8,7 +8,7 @@ use crate::measure::Measure;
 use crate::orders::{put, TrialBays, FIRST_TRIAL_BAY, RECORD, WEEK};
 use crate::random::Random;
 use crate::tally::Tally;
-use crate::{alone, cases, guard, log, meter, near, season_case, seconds, stretches, sums, trial, variants};
+use crate::{alone, cases, guard, log, meter, near, rest, season_case, seconds, stretches, sums, trial, variants};
 
 /// A case in which the two differ, with the bytes that show it.
 #[derive(Default)]
@@ -19,6 +19,9 @@ pub struct Difference {
     pub log: Vec<u8>,
     pub stream: Vec<u8>,
 }
+
+/// As planning reads, and as the others do.
+const BOTH: [TrialBays; 2] = [TrialBays::Closed, TrialBays::Open];
 
 /// Slots of a damaged plan that still stands around whose edges points are asked for.
 const FEW: usize = 4;
@@ -54,7 +57,10 @@ impl Case<'_> {
     /// The order as planning reads it, with trial bays closed, and as judging, drawing, the pen and laying do, with trial bays open.
     fn own(&self) -> Result<[Result<House, Judged>; 2], Difference> {
         trial::sentence(&self.order).or_else(|what| self.differ(format!("C-14: {what}"), &[]))?;
-        Ok([TrialBays::Closed, TrialBays::Open].map(|trial_bays| accept(&self.order, trial_bays)))
+        for trial_bays in BOTH {
+            rest::sentence(&self.order, trial_bays).or_else(|what| self.differ(format!("C-16: {what}"), &[]))?;
+        }
+        Ok(BOTH.map(|trial_bays| accept(&self.order, trial_bays)))
     }
 
     /// A buffer that is too short, now and then; the answer is 1 whatever the order.

@@ -38,6 +38,10 @@ mod page;
 mod printer;
 mod random;
 mod refusals;
+mod rest;
+#[cfg(feature = "errors")]
+mod rest_slips;
+mod resting;
 mod runs;
 mod samples;
 mod season;

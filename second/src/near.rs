@@ -1,6 +1,8 @@
 //! Bytes that are nearly orders: every refusal, damaged bytes, any length.
 
-use crate::orders::{dose_record, fan_record, number, put, Dose, FIRST_TRIAL_BAY, LAST_BAY, MILLION, RECORD, WEEK};
+use crate::orders::{
+    dose_record, fan_record, number, put, Dose, Order, FIRST_TRIAL_BAY, LAST_BAY, MILLION, MOST_DOSES, RECORD, REST, RESTS, WEEK,
+};
 use crate::random::Random;
 use crate::styles;
 
@@ -106,12 +108,24 @@ fn same_bay(bytes: &mut Vec<u8>, at: usize, r: &mut Random) {
     insert(bytes, &dose_record(&d), r);
 }
 
+/// Byte 2 of an F put to a rule, or to none; byte 3, a byte behind the fields or a field may be spoilt too.
+fn any_rule(bytes: &mut [u8], at: usize, r: &mut Random) {
+    let any = r.below(256) as u8;
+    bytes[at + 2] = r.pick(&[0, 1, 2, 2, 3, 255, any]);
+    match r.below(8) {
+        0 | 1 => bytes[at + 3] = r.pick(&[1, 2, 128, 255]),
+        2 => bytes[at + r.pick(&[12, 20, 31])] = r.pick(&[1, 128, 255]),
+        3 => to_edge(bytes, at, &FAN_EDGES, r),
+        _ => {}
+    }
+}
+
 /// Bytes of orders spoilt in one place; now and then they are right all the same.
 pub fn spoil(bytes: &mut Vec<u8>, r: &mut Random) {
     let whole = bytes.len() / RECORD;
     let some = if whole == 0 { None } else { Some(r.below(whole as u64) as usize * RECORD) };
     let (doses, fans) = (records(bytes, b'D'), records(bytes, b'F'));
-    match r.below(11) {
+    match r.below(13) {
         0 => {
             let cut = r.below(bytes.len() as u64 + 1) as usize;
             bytes.truncate(cut);
@@ -142,7 +156,7 @@ pub fn spoil(bytes: &mut Vec<u8>, r: &mut Random) {
         }
         7 => match any(r, &fans) {
             Some(at) if r.once_in(2) => drop(bytes.drain(at..at + RECORD)),
-            _ => insert(bytes, &fan_record(r.range(1, 8), MILLION, 1), r),
+            _ => insert(bytes, &fan_record(r.range(1, 8), r.pick(&RESTS), MILLION, 1), r),
         },
         8 => {
             for i in 0..r.range(1, 30) {
@@ -155,12 +169,80 @@ pub fn spoil(bytes: &mut Vec<u8>, r: &mut Random) {
                 same_bay(bytes, at, r);
             }
         }
+        10 | 11 => {
+            if let Some(at) = any(r, &fans) {
+                any_rule(bytes, at, r);
+            }
+        }
         _ => {
             for _ in 0..r.range(1, 3).min(bytes.len() as u32) {
                 let at = r.below(bytes.len() as u64) as usize;
                 bytes[at] = if r.once_in(2) { bytes[at] ^ 1 << r.below(8) } else { r.below(256) as u8 };
             }
         }
+    }
+}
+
+/// Seconds between two windows of a bay: none, or about the rest.
+const GAPS: [u32; 12] = [0, 1, REST - 2, REST - 1, REST - 1, REST - 1, REST, REST, REST, REST, REST + 1, REST + 2];
+
+/// A second more or less at one end of a window, or at both.
+fn nudge(d: &mut Dose, r: &mut Random) {
+    let (by, to) = r.pick(&[(-1, 0), (1, 0), (0, -1), (0, 1), (-1, -1), (1, 1)]);
+    let (Some(release), Some(deadline)) = (d.release.checked_add_signed(by), d.deadline.checked_add_signed(to)) else { return };
+    if release < deadline && deadline <= WEEK {
+        (d.release, d.deadline) = (release, deadline);
+    }
+}
+
+/// Rows of doses with the rest between them, of which a few are nudged.
+fn nudged_rows(order: &mut Order, r: &mut Random) {
+    let n = r.range(2, 9) as usize;
+    order.doses = styles::rows(n, REST, r);
+    (order.top_grams, order.top_seconds) = (MILLION, 1);
+    for _ in 0..r.pick(&[0, 1, 2, 3]) {
+        let i = r.below(n as u64) as usize;
+        if let Some(d) = order.doses.get_mut(i) {
+            nudge(d, r);
+        }
+    }
+}
+
+/// Doses of the bay of another one, before it or behind, with about the rest between them.
+fn beside(order: &mut Order, r: &mut Random) {
+    if order.doses.is_empty() {
+        return;
+    }
+    let mut beside = r.pick(&order.doses);
+    for _ in 0..r.pick(&[1, 1, 1, 2, 3]) {
+        let (gap, length, count) = (r.pick(&GAPS), r.scaled(1, 900), order.doses.len());
+        let (before, behind) = (beside.release.saturating_sub(gap), beside.deadline + gap);
+        let (release, deadline) = match r.once_in(2) {
+            true if before > 0 => (before.saturating_sub(length), before),
+            _ if behind < WEEK => (behind, (behind + length).min(WEEK)),
+            _ => continue,
+        };
+        let d = Dose { release, deadline, grams: r.range(1, 50), ..beside };
+        // In a record of its own, or in place of another dose.
+        let at = r.below(count as u64 + 1) as usize;
+        if order.doses.get(at).is_some_and(|other| *other != beside) && (count == MOST_DOSES || r.once_in(2)) {
+            order.doses[at] = d;
+        } else if count < MOST_DOSES {
+            order.doses.insert(at, d);
+        }
+        if r.once_in(2) {
+            beside = d;
+        }
+    }
+}
+
+/// Several doses in a bay, mostly by rule 1: the rest between them is too short, or just long enough.
+pub fn crowd(order: &mut Order, r: &mut Random) {
+    order.rest = r.pick(&[0, REST, REST, REST]);
+    if r.once_in(3) {
+        nudged_rows(order, r);
+    } else {
+        beside(order, r);
     }
 }
 
@@ -176,7 +258,7 @@ fn any_length(r: &mut Random) -> Vec<u8> {
 
 /// More right records than an order may have, all of open bays.
 pub fn long(r: &mut Random) -> Vec<u8> {
-    let mut all = fan_record(r.range(1, 8), MILLION, 1).to_vec();
+    let mut all = fan_record(r.range(1, 8), r.pick(&RESTS), MILLION, 1).to_vec();
     for i in 0..60 {
         all.extend(dose_record(&Dose { bay: 1 + i, release: 5 * i, deadline: 5 * i + 7, grams: 3 + i }));
     }
@@ -188,7 +270,10 @@ pub fn bytes(r: &mut Random) -> Vec<u8> {
     if r.once_in(16) {
         return any_length(r);
     }
-    let (order, _) = styles::valid(r);
+    let (mut order, _) = styles::valid(r);
+    if r.once_in(3) {
+        crowd(&mut order, r);
+    }
     let mut bytes = styles::bytes(&order, r);
     if r.once_in(3) {
         for _ in 0..r.pick(&[1, 1, 1, 2, 3]) {

@@ -9,6 +9,12 @@ pub const LAST_BAY: u32 = 999;
 /// "Bays 900 to 999 were for demonstrations and no house has one now."
 pub const FIRST_TRIAL_BAY: u32 = 900;
 
+/// "Newer inlet valves must rest 300 seconds between doses."
+pub const REST: u32 = 300;
+/// The rest that each rule asks for: "0 lets windows of a bay touch, 1 asks that the later release be at least 300 after the earlier
+/// deadline".
+pub const RESTS: [u32; 2] = [0, REST];
+
 /// Whether an order may name trial bays. Closed: "New orders that name them are not planned." Open: "Old orders and their plans are still
 /// judged, drawn and replayed, since growers look back at past seasons."
 #[derive(Clone, Copy, Debug, PartialEq, Eq)]
@@ -30,6 +36,8 @@ pub struct Order {
     pub fans: u32,
     pub top_grams: u32,
     pub top_seconds: u32,
+    /// The seconds that the windows of a bay must be apart.
+    pub rest: u32,
     pub doses: Vec<Dose>,
 }
 
@@ -65,26 +73,28 @@ fn in_range(d: &Dose) -> bool {
     between(1, d.bay, LAST_BAY) && window && between(1, d.grams, MILLION)
 }
 
-/// Reads an order: 2, then record by record 3, 4, 5 and, where trial bays are closed, 15 "in 5's place for that record after 5 itself"; then
-/// 6, 7, 8.
-pub fn read(bytes: &[u8], trial_bays: TrialBays) -> Result<Order, Refusal> {
+/// Reads the records of an order: 2, then record by record 3, 4, 5 and, where trial bays are closed, 15 "in 5's place for that record after 5
+/// itself"; then 6, 7. The windows of a bay may still clash. With it comes the index of each dose's record.
+pub fn read_records(bytes: &[u8], trial_bays: TrialBays) -> Result<(Order, Vec<usize>), Refusal> {
     let refuse = |number, place| Err(Refusal { number, place });
     if !bytes.len().is_multiple_of(RECORD) || bytes.len() > LONGEST_ORDER {
         return refuse(2, 0);
     }
     let mut fans = Vec::new();
-    let mut doses: Vec<(usize, Dose)> = Vec::new();
+    let (mut doses, mut places) = (Vec::new(), Vec::new());
     for (place, r) in bytes.chunks(RECORD).enumerate() {
         match r[0] {
             b'F' => {
-                if !zero(r, 2, 4) || !zero(r, 12, 32) {
+                if !zero(r, 3, 4) || !zero(r, 12, 32) {
                     return refuse(4, place);
                 }
                 let f = (number(r, 1, 1), number(r, 4, 4), number(r, 8, 4));
-                if !(between(1, f.0, 8) && between(1, f.1, MILLION) && between(1, f.2, MILLION)) {
-                    return refuse(5, place);
+                let ranges = between(1, f.0, 8) && between(1, f.1, MILLION) && between(1, f.2, MILLION);
+                // "Byte 2 above 1 is 5": no rule has that number.
+                match RESTS.get(usize::from(r[2])) {
+                    Some(&rest) if ranges => fans.push((f, rest)),
+                    _ => return refuse(5, place),
                 }
-                fans.push(f);
             }
             b'D' => {
                 if !zero(r, 1, 2) || !zero(r, 16, 32) {
@@ -97,7 +107,8 @@ pub fn read(bytes: &[u8], trial_bays: TrialBays) -> Result<Order, Refusal> {
                 if trial_bays == TrialBays::Closed && is_trial_bay(d.bay) {
                     return refuse(15, place);
                 }
-                doses.push((place, d));
+                doses.push(d);
+                places.push(place);
             }
             _ => return refuse(3, place),
         }
@@ -108,20 +119,33 @@ pub fn read(bytes: &[u8], trial_bays: TrialBays) -> Result<Order, Refusal> {
     if doses.len() > MOST_DOSES {
         return refuse(7, 0);
     }
-    for (i, (place, d)) in doses.iter().enumerate() {
-        let clash = |e: &Dose| e.bay == d.bay && e.release < d.deadline && d.release < e.deadline;
-        if doses[..i].iter().any(|(_, e)| clash(e)) {
-            return refuse(8, *place);
-        }
-    }
-    let (n, top_grams, top_seconds) = fans[0];
-    Ok(Order { fans: n, top_grams, top_seconds, doses: doses.into_iter().map(|(_, d)| d).collect() })
+    let ((n, top_grams, top_seconds), rest) = fans[0];
+    Ok((Order { fans: n, top_grams, top_seconds, rest, doses }, places))
 }
 
-pub fn fan_record(fans: u32, top_grams: u32, top_seconds: u32) -> [u8; RECORD] {
+/// Whether the later release is at least the rest after the earlier deadline, whichever of the two windows is the earlier.
+fn apart(d: &Dose, e: &Dose, rest: u32) -> bool {
+    d.deadline + rest <= e.release || e.deadline + rest <= d.release
+}
+
+/// Reads an order: its records, and then 8 by the rest that its F asks for, which may stand behind the doses.
+pub fn read(bytes: &[u8], trial_bays: TrialBays) -> Result<Order, Refusal> {
+    let (order, places) = read_records(bytes, trial_bays)?;
+    let doses = &order.doses;
+    let clash = |d: &Dose, e: &Dose| d.bay == e.bay && !apart(d, e, order.rest);
+    match (0..doses.len()).find(|&i| doses[..i].iter().any(|e| clash(&doses[i], e))) {
+        Some(i) => Err(Refusal { number: 8, place: places[i] }),
+        None => Ok(order),
+    }
+}
+
+/// An F record; the rest is one that a rule asks for.
+pub fn fan_record(fans: u32, rest: u32, top_grams: u32, top_seconds: u32) -> [u8; RECORD] {
+    let rule = RESTS.iter().position(|&r| r == rest).expect("a rest that a rule asks for");
     let mut r = [0; RECORD];
     r[0] = b'F';
     put(&mut r, 1, 1, fans);
+    put(&mut r, 2, 1, rule as u32);
     put(&mut r, 4, 4, top_grams);
     put(&mut r, 8, 4, top_seconds);
     r
@@ -139,7 +163,7 @@ pub fn dose_record(d: &Dose) -> [u8; RECORD] {
 
 /// The bytes of an order with its F record before dose `fan_at` (or last).
 pub fn write(order: &Order, fan_at: usize) -> Vec<u8> {
-    let fan = fan_record(order.fans, order.top_grams, order.top_seconds);
+    let fan = fan_record(order.fans, order.rest, order.top_grams, order.top_seconds);
     let mut records: Vec<_> = order.doses.iter().map(dose_record).collect();
     records.insert(fan_at.min(order.doses.len()), fan);
     records.concat()

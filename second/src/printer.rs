@@ -89,6 +89,7 @@ pub fn case(order: &[u8], plan: Option<&[u8]>, log: Option<(usize, &[u8])>) {
     };
     let o = &house.order;
     println!("{} fans, top {}/{}, {} doses, {} intervals", o.fans, o.top_grams, o.top_seconds, o.doses.len(), house.spans.count());
+    println!("{} seconds of rest between doses of a bay", o.rest);
     for (k, d) in o.doses.iter().enumerate() {
         println!("dose {k}: bay {}, [{}, {}) {} grams", d.bay, d.release, d.deadline, d.grams);
     }

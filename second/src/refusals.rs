@@ -34,7 +34,7 @@ pub fn alone(c: &mut Checks) {
     for (place, kind) in [(0, 0), (0, b'C'), (1, b'S'), (2, b'd'), (2, b'f'), (1, 255)] {
         c.refused(&format!("3: kind {kind} in record {place}"), &with(&right, &[(place * RECORD, kind)]), refusal(3, place));
     }
-    for (place, at) in [2, 3].into_iter().chain(12..32).map(|at| (0, at)).chain([1].into_iter().chain(16..32).map(|at| (2, at))) {
+    for (place, at) in [3].into_iter().chain(12..32).map(|at| (0, at)).chain([1].into_iter().chain(16..32).map(|at| (2, at))) {
         c.refused(&format!("4: byte {at} of record {place}"), &with(&right, &[(place * RECORD + at, 1)]), refusal(4, place));
     }
     c.refused("6: no F", &right[RECORD..], refusal(6, 0));
@@ -74,6 +74,9 @@ pub fn edges(c: &mut Checks) {
     for (fans, good) in [(0, false), (1, true), (8, true), (9, false), (255, false)] {
         edge(c, "fans", 0, (1, 1, fans), good);
     }
+    for (rule, good) in [(0, true), (1, true), (2, false), (128, false), (255, false)] {
+        edge(c, "rule", 0, (2, 1, rule), good);
+    }
     for (name, record, at) in [("top grams", 0, 4), ("top seconds", 0, 8), ("grams", 2, 12)] {
         for (value, good) in [(0, false), (1, true), (MILLION, true), (MILLION + 1, false), (u32::MAX, false)] {
             edge(c, name, record, (at, 4, value), good);
@@ -90,7 +93,7 @@ pub fn edges(c: &mut Checks) {
         edge(c, "deadline", 2, (8, 4, deadline), good);
     }
     let last = Dose { bay: 1, release: WEEK - 1, deadline: WEEK, grams: MILLION };
-    let bytes = [&fan_record(8, MILLION, 1)[..], &dose_record(&last)].concat();
+    let bytes = [&fan_record(8, 0, MILLION, 1)[..], &dose_record(&last)].concat();
     c.planned("the last second, a ton of it", &bytes, 1, 1);
 }
 

@@ -3,7 +3,7 @@
 use crate::answers::accept;
 use crate::cases::{examples, order, p2, TOP};
 use crate::compare::order_of;
-use crate::orders::{write, Dose, Order, TrialBays};
+use crate::orders::{write, Dose, Order, TrialBays, REST};
 use crate::random::Random;
 use crate::streams;
 use crate::variants::{damage, standing};
@@ -57,10 +57,24 @@ const OLD: [Row; 5] = [
     (101, (6, 30), (6, 50), 1_000),
 ];
 
+/// An order for new valves: the doses of bays 101 and 102 are five minutes apart, that of bay 103 begins as another bay's ends. Its shares are
+/// forced.
+const RESTED: [Row; 6] = [
+    (101, (6, 0), (6, 20), 1_500),
+    (102, (6, 0), (6, 30), 2_400),
+    (101, (6, 25), (6, 40), 900),
+    (102, (5, 40), (5, 55), 600),
+    (103, (6, 20), (6, 45), 1_200),
+    (101, (6, 45), (7, 0), 700),
+];
+
+/// The dose of it that comes before another one of its bay in time, and behind it in the file.
+const EARLY: usize = 3;
+
 fn order_on(fans: u32, rows: &[Row]) -> Order {
     let seconds = |(h, m): Clock| h * 3_600 + m * 60;
     let dose = |&(bay, from, to, grams): &_| Dose { bay, release: seconds(from), deadline: seconds(to), grams };
-    Order { fans, top_grams: 7, top_seconds: 2, doses: rows.iter().map(dose).collect() }
+    Order { fans, top_grams: 7, top_seconds: 2, rest: 0, doses: rows.iter().map(dose).collect() }
 }
 
 fn house() -> Order {
@@ -75,6 +89,11 @@ pub fn old_plan() -> Vec<u8> {
     accept(&old(), TrialBays::Open).expect("an old order").plan(None)
 }
 
+/// Its F names rule 1, and stands last.
+fn rested() -> Order {
+    Order { rest: REST, ..order_on(2, &RESTED) }
+}
+
 /// The samples by name.
 pub fn all() -> Vec<(&'static str, Vec<u8>)> {
     let mut fast = house();
@@ -85,7 +104,11 @@ pub fn all() -> Vec<(&'static str, Vec<u8>)> {
     let cut = write(&order(2, TOP, &[(5, 6, 10); 3]), 0);
     let own = [("p2", write(&p2(), 0)), ("house", write(&house(), 0)), ("fast", write(&fast, 0)), ("damaged", damaged)];
     let later = [("hard", HARD.to_vec()), ("cut", cut), ("trial", write(&order_on(2, &TRIAL), 0)), ("old", old())];
-    own.into_iter().chain(later).collect()
+    // The rest after the early dose is a second too short.
+    let mut short = rested();
+    short.doses[EARLY].deadline += 1;
+    let rests = [("rest", write(&rested(), RESTED.len())), ("short-rest", write(&short, RESTED.len()))];
+    own.into_iter().chain(later).chain(rests).collect()
 }
 
 /// Days in the sample season: six weeks.

@@ -3,6 +3,7 @@
 use crate::answers::House;
 use crate::library::{Judged, Season};
 use crate::orders::{number, TrialBays, LONGEST_ORDER, RECORD};
+use crate::rest::by_rule;
 use crate::season::{above, orders, Figures, Rate, LONGEST_STREAM, NONE, REFUSED};
 use crate::slipped::Slipped;
 use crate::slips::Slip::*;
@@ -82,7 +83,8 @@ impl Slipped {
         let trial_bays = if self.0 == ClosedToSeason { TrialBays::Closed } else { TrialBays::Open };
         let (mut season, mut greatest) = (Season::default(), None);
         for order in orders {
-            let figures = match self.accept(order, trial_bays) {
+            let order = if self.0 == RuleOfFirstOrder { by_rule(order, stream[2]) } else { order.to_vec() };
+            let figures = match self.accept(&order, trial_bays) {
                 Ok(house) => {
                     season.accepted += u32::from(self.0 != AloneLeftOut || !house.order.doses.is_empty());
                     self.figures(&house)
@@ -90,7 +92,7 @@ impl Slipped {
                 Err(refusal) => {
                     // There is no place for 15.
                     season.refused.iter_mut().skip(refusal.number as usize).take(1).for_each(|count| *count += 1);
-                    self.refused(order, &refusal)
+                    self.refused(&order, &refusal)
                 }
             };
             season.grams += figures.grams;

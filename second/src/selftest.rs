@@ -13,7 +13,7 @@ use crate::orders::{write, Order, TrialBays, RECORD};
 use crate::random::Random;
 use crate::runs;
 use crate::stands::{Broken, CLAUSES};
-use crate::{alone, clauses, near, season, seconds, streams, styles, sums, trial, variants};
+use crate::{alone, clauses, near, rest, season, seconds, streams, styles, sums, trial, variants};
 use std::time::Instant;
 
 fn fail(what: &str, case: u64, order: &Order) -> bool {
@@ -45,13 +45,19 @@ fn classes(cases: u64, seed: u64) -> bool {
     true
 }
 
-/// C-14's sentences about orders and nearly orders.
+/// C-14's and C-16's sentences about one order: whether planning alone refuses it, and whether rule 1 alone would.
+fn read_alike(order: &[u8]) -> Result<(bool, bool), String> {
+    rest::sentence(order, TrialBays::Closed)?;
+    Ok((trial::sentence(order)?, rest::sentence(order, TrialBays::Open)?))
+}
+
+/// The same of orders and nearly orders.
 fn reads(cases: u64, seed: u64) -> bool {
     let began = Instant::now();
-    let mut closed = 0;
+    let (mut closed, mut short) = (0, 0);
     for case in 0..cases {
-        match trial::sentence(&near::bytes(&mut Random::of_case(seed, case))) {
-            Ok(differ) => closed += u64::from(differ),
+        match read_alike(&near::bytes(&mut Random::of_case(seed, case))) {
+            Ok((by_planning, by_rest)) => (closed, short) = (closed + u64::from(by_planning), short + u64::from(by_rest)),
             Err(what) => {
                 println!("case {case}: {what}");
                 return false;
@@ -59,6 +65,7 @@ fn reads(cases: u64, seed: u64) -> bool {
         }
     }
     took(&format!("planning and judging read {cases} orders alike, but for {closed} with trial bays"), began);
+    println!("  by rule 0 and by rule 1 they read alike, but for {short} with too short a rest");
     true
 }
 

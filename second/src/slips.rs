@@ -73,11 +73,26 @@ pub enum Slip {
     FloatFirst,
     ReducedFirst,
     NoneIsZero,
+    OneLess,
+    OneMore,
+    AskedOfRuleZero,
+    AskedOfAllBays,
+    AskedOneWay,
+    AskedOfNeighbours,
+    AskedBehindFans,
+    RuleOfFirstRecord,
+    AskedInPlanning,
+    RestAtEarlier,
+    RuleFour,
+    AnyRuleRests,
+    WideRule,
+    ThirdByteUnread,
+    RuleOfFirstOrder,
 }
 
 use Slip::*;
 
-pub const SLIPS: [(Slip, &str); 62] = [
+pub const SLIPS: [(Slip, &str); 77] = [
     (FansUsed, "Fig. 2, line 6 as printed: the smaller of active doses and fans already used"),
     (FansUsedLater, "the same, but the first class sees all fans"),
     (AnySet, "any set of greatest rate: the last one met"),
@@ -140,6 +155,21 @@ pub const SLIPS: [(Slip, &str); 62] = [
     (FloatFirst, "season: first classes compared as 32-bit floats"),
     (ReducedFirst, "season: W and P reduced"),
     (NoneIsZero, "season: 0 and 0 if there is none"),
+    (OneLess, "rest: 299 seconds"),
+    (OneMore, "rest: 301 seconds"),
+    (AskedOfRuleZero, "rest: asked by rule 0 too"),
+    (AskedOfAllBays, "rest: asked of different bays too"),
+    (AskedOneWay, "rest: asked only where the later record is later in time"),
+    (AskedOfNeighbours, "rest: asked only of the dose of that bay before it in the order"),
+    (AskedBehindFans, "rest: asked only of doses behind F"),
+    (RuleOfFirstRecord, "rest: the rule taken only of an F in front of all doses"),
+    (AskedInPlanning, "rest: asked in planning alone"),
+    (RestAtEarlier, "rest: 8 with the earlier dose's place"),
+    (RuleFour, "rest: 4 for byte 2 above 1"),
+    (AnyRuleRests, "rest: byte 2 above 1 read as rule 1"),
+    (WideRule, "rest: bytes 2 and 3 read as one number, 5 where 4 is due"),
+    (ThirdByteUnread, "rest: byte 3 not tested"),
+    (RuleOfFirstOrder, "rest: all orders of a stream read by the first one's rule"),
 ];
 
 /// The first case from `from` on that differs, if one does.

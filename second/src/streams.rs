@@ -2,7 +2,7 @@
 
 use crate::cases::{order, TOP};
 use crate::near;
-use crate::orders::{dose_record, fan_record, number, write, Dose, LAST_BAY, MILLION, MOST_DOSES, RECORD, WEEK};
+use crate::orders::{dose_record, fan_record, number, write, Dose, Order, LAST_BAY, MILLION, MOST_DOSES, RECORD, RESTS, WEEK};
 use crate::random::Random;
 use crate::samples;
 use crate::season::LONGEST_STREAM;
@@ -17,7 +17,7 @@ const FULL: u64 = 1_000;
 
 /// An F record on its own: an order without doses.
 fn alone(r: &mut Random) -> Vec<u8> {
-    fan_record(r.range(1, 8), r.scaled(1, MILLION), r.scaled(1, MILLION)).to_vec()
+    fan_record(r.range(1, 8), r.pick(&RESTS), r.scaled(1, MILLION), r.scaled(1, MILLION)).to_vec()
 }
 
 /// The bytes of an order with its first F record in front, if it has one.
@@ -34,6 +34,7 @@ fn one_dose(grams: u32, seconds: u32, r: &mut Random) -> Vec<u8> {
     let release = r.range(0, WEEK - seconds);
     let mut o = order(r.range(1, 8), (MILLION, 1), &[(release, release + seconds, grams)]);
     o.doses[0].bay = r.range(1, LAST_BAY);
+    o.rest = r.pick(&RESTS);
     write(&o, 0)
 }
 
@@ -61,7 +62,7 @@ fn tied(r: &mut Random) -> Vec<Vec<u8>> {
 fn too_fast(r: &mut Random) -> Vec<u8> {
     let mut bytes = one_dose(r.range(2, MILLION), r.range(1, 9), r);
     let grams = number(&bytes[RECORD..], 12, 4);
-    bytes[..RECORD].copy_from_slice(&fan_record(1, r.range(1, (grams / 10).max(1)), r.range(9, MILLION)));
+    bytes[..RECORD].copy_from_slice(&fan_record(1, r.pick(&RESTS), r.range(1, (grams / 10).max(1)), r.range(9, MILLION)));
     bytes
 }
 
@@ -86,6 +87,11 @@ fn one(case: &[u8], r: &mut Random) -> Vec<u8> {
             bytes.truncate(bytes.len() / RECORD * RECORD);
             bytes
         }
+        8..=11 => {
+            let mut order = styles::few(FEW, r);
+            near::crowd(&mut order, r);
+            write(&order, 0)
+        }
         _ => write(&styles::few(FEW, r), 0),
     }
 }
@@ -98,7 +104,10 @@ fn long(stream: &[u8], r: &mut Random) -> Vec<u8> {
 
 /// As many orders of 24 doses as a stream may hold.
 fn full(r: &mut Random) -> Vec<u8> {
-    let one = |_| write(&styles::exactly(MOST_DOSES, styles::OVER_THE_WEEK, r), 0);
+    let one = |_| {
+        let order = styles::exactly(MOST_DOSES, styles::OVER_THE_WEEK, r);
+        write(&Order { rest: r.pick(&RESTS), ..order }, 0)
+    };
     (0..LONGEST_STREAM / RECORD / (MOST_DOSES + 1)).flat_map(one).collect()
 }
 

@@ -2,7 +2,7 @@
 
 use crate::classes;
 use crate::intervals::Intervals;
-use crate::orders::{read, write, Dose, Order, TrialBays, FIRST_TRIAL_BAY, LAST_BAY, MILLION, MOST_DOSES, WEEK};
+use crate::orders::{read, write, Dose, Order, TrialBays, FIRST_TRIAL_BAY, LAST_BAY, MILLION, MOST_DOSES, RESTS, WEEK};
 use crate::random::Random;
 
 const HARD: &[u8] = include_bytes!("../../samples/hard.order");
@@ -111,8 +111,8 @@ fn windows(style: usize, n: usize, r: &mut Random) -> Vec<(u32, u32, u32)> {
         .collect()
 }
 
-/// Few bays, each with a row of windows that touch or nearly do.
-fn touching(n: usize, r: &mut Random) -> Vec<Dose> {
+/// Few bays, each with a row of windows that are as near each other as the rest lets them be, or nearly so.
+pub fn rows(n: usize, rest: u32, r: &mut Random) -> Vec<Dose> {
     let bays = r.range(1, 3);
     let mut at = [0; 4];
     let most = r.pick(&[3, 50, WEEK / 24]);
@@ -124,7 +124,7 @@ fn touching(n: usize, r: &mut Random) -> Vec<Dose> {
         if deadline > WEEK {
             break;
         }
-        at[bay as usize] = deadline;
+        at[bay as usize] = deadline + rest;
         doses.push(Dose { bay: bay * 299, release, deadline, grams: some_grams(r) });
     }
     r.shuffle(&mut doses);
@@ -202,8 +202,9 @@ fn set_top(order: &mut Order, r: &mut Random) {
 
 /// An order of this style that passes 2 to 8, of so many doses; the style of the hard sample has its own number.
 fn of_style(style: usize, n: usize, r: &mut Random) -> Order {
+    let rest = r.pick(&RESTS);
     let mut doses = match style {
-        3 => touching(n, r),
+        3 => rows(n, rest, r),
         HARD_STYLE => hard(r),
         _ => {
             let list = windows(style, n, r);
@@ -211,12 +212,12 @@ fn of_style(style: usize, n: usize, r: &mut Random) -> Order {
         }
     };
     rename(&mut doses, r);
-    let mut order = Order { fans: if r.once_in(4) { r.range(1, 2) } else { r.range(1, 8) }, top_grams: 1, top_seconds: 1, doses };
+    let mut order = Order { fans: if r.once_in(4) { r.range(1, 2) } else { r.range(1, 8) }, top_grams: 1, top_seconds: 1, rest, doses };
     set_top(&mut order, r);
     order
 }
 
-/// An order that passes 2 to 8, and the style it has.
+/// An order that passes 2 to 8, by either rule of rest, and the style it has.
 pub fn valid(r: &mut Random) -> (Order, usize) {
     let style = r.below(STYLES.len() as u64) as usize;
     let n = count(r);
@@ -237,9 +238,12 @@ pub const SPREAD: usize = 12;
 /// An order of exactly `n` doses of one of these, for measuring.
 pub fn exactly(n: usize, style: usize, r: &mut Random) -> Order {
     let list = windows(style, n, r);
-    Order { fans: r.range(1, 8), top_grams: MILLION, top_seconds: 1, doses: own_bays(list, r) }
+    Order { fans: r.range(1, 8), top_grams: MILLION, top_seconds: 1, rest: 0, doses: own_bays(list, r) }
 }
 
+/// The bytes of an order with its F record anywhere, often first or last.
 pub fn bytes(order: &Order, r: &mut Random) -> Vec<u8> {
-    write(order, r.below(order.doses.len() as u64 + 1) as usize)
+    let last = order.doses.len();
+    let anywhere = r.below(last as u64 + 1) as usize;
+    write(order, r.pick(&[0, last, anywhere, anywhere]))
 }

@@ -65,7 +65,7 @@ fn plan_of(peer: &dyn Peer, order: &[u8], buffer: &mut [u8]) -> Result<Vec<u8>, 
     let plan = house.ok_or_else(|| format!("an order accepted by judging, and not planned: {planned:?}"))?.plan(None);
     match peer.judge(order, &plan) {
         judged if judged.number == 0 => Ok(plan),
-        judged => Err(format!("a plan of trial bays judged {judged:?}")),
+        judged => Err(format!("a plan of trial bays, judged: {judged:?}")),
     }
 }
 

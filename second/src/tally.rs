@@ -4,7 +4,8 @@ use crate::answers::House;
 use crate::layout::Slot;
 use crate::library::Judged;
 use crate::log::{metered, Fault, Read, Reading, FAULTS};
-use crate::orders::{Refusal, RECORD};
+use crate::orders::{read, read_records, Dose, Refusal, TrialBays, RECORD, REST};
+use crate::rest::{by_rule, rule};
 use crate::season::{above, sheet, Figures, Rate};
 use crate::seconds::SECONDS;
 use crate::stands::CLAUSES;
@@ -15,6 +16,7 @@ pub struct Tally {
     pub cases: u64,
     orders: [u64; 16],
     old: Old,
+    rests: Rests,
     plannings: [u64; 16],
     drawings: [u64; 16],
     seconds: [u64; SECONDS.len()],
@@ -39,6 +41,9 @@ struct Streams {
     /// Accepted orders with trial bays, and those of an F record alone.
     old: u64,
     alone: u64,
+    /// Orders accepted by rule 1, and refused by the rest alone.
+    rested: u64,
+    short: u64,
     /// Streams in which another order has the greatest first class's rate, by other W and P; and a lower one of the same whole grams a second.
     ties: u64,
     near_ties: u64,
@@ -57,6 +62,25 @@ struct Old {
     laid: u64,
 }
 
+/// What was met of the rest between doses.
+#[derive(Clone, Default)]
+struct Rests {
+    /// Orders by rule 1 and orders that name no rule, by judging's answer.
+    rule_1: [u64; 10],
+    no_rule: [u64; 10],
+    /// Those by rule 1 that are refused by 8: by the rest alone, and with a later place by rule 0.
+    alone: u64,
+    sooner: u64,
+    /// Orders by rule 1 with two doses of a bay: F before all doses, between them, behind them.
+    fans: [u64; 3],
+    /// All such pairs: in the file as they are in time, and the other way round.
+    pairs: [[u64; 2]; PAIRS.len()],
+}
+
+/// Two windows of a bay, by the seconds between them.
+const PAIRS: [&str; 6] =
+    ["overlapping", "under 299 seconds apart", "299 seconds apart", "300 seconds apart", "301 seconds apart", "further apart"];
+
 /// Kinds of stretches in the logs that were laid.
 const STRETCHES: [&str; 4] = ["counter", "counter that turns", "flow", "unknown"];
 
@@ -72,6 +96,11 @@ impl Tally {
         self.old.in_hand = answer(new) == 15;
         self.old.planning[answer(new)] += u64::from(trial::first_record(bytes).is_some());
         self.old.judging[answer(old)] += u64::from(self.old.in_hand);
+        match rule(bytes) {
+            Some(1) => self.rests.order(bytes, old.as_ref().err()),
+            Some(2..) => self.rests.no_rule[answer(old)] += 1,
+            _ => {}
+        }
     }
 
     pub fn planned(&mut self, number: u32) {
@@ -138,6 +167,8 @@ impl Tally {
             s.orders[figures.as_ref().err().map_or(0, |&number| number as usize)] += 1;
             s.old += u64::from(figures.is_ok() && trial::first_record(order).is_some());
             s.alone += u64::from(figures.is_ok() && order.len() == RECORD);
+            s.rested += u64::from(figures.is_ok() && rule(order) == Some(1));
+            s.short += u64::from(*figures == Err(8) && read(&by_rule(order, 0), TrialBays::Open).is_ok());
         }
         let season = sheet(figures);
         let greatest = (season.weight, season.time);
@@ -157,6 +188,7 @@ impl Tally {
         self.old.standing += other.old.standing;
         self.old.drawn += other.old.drawn;
         self.old.laid += other.old.laid;
+        self.rests.add(&other.rests);
         self.streams.add(&other.streams);
         sum(&mut self.plannings, &other.plannings);
         sum(&mut self.drawings, &other.drawings);
@@ -176,6 +208,7 @@ impl Tally {
         println!("of 15, by judging     {}", row(&self.old.judging));
         let Old { standing, drawn, laid, .. } = self.old;
         println!("of 15, with plans     {standing} judged standing, {drawn} points and pens drawn, {laid} logs laid");
+        self.rests.print();
         println!("planning by answer    {}", row(&self.plannings));
         println!("points, pens by answer {}", row(&self.drawings));
         for (kind, n) in SECONDS.iter().zip(self.seconds) {
@@ -196,6 +229,48 @@ impl Tally {
     }
 }
 
+impl Rests {
+    /// An order by rule 1, and what judging refuses it by.
+    fn order(&mut self, bytes: &[u8], refusal: Option<&Judged>) {
+        let number = refusal.map_or(0, |j| j.number as usize);
+        self.rule_1[number] += 1;
+        let touching = read(&by_rule(bytes, 0), TrialBays::Open);
+        self.alone += u64::from(number == 8 && touching.is_ok());
+        self.sooner += u64::from(number == 8 && touching.is_err_and(|r| refusal.is_some_and(|j| r.place > j.place as usize)));
+        let Ok((order, _)) = read_records(bytes, TrialBays::Open) else { return };
+        let mut two = false;
+        for (i, d) in order.doses.iter().enumerate() {
+            for e in order.doses[..i].iter().filter(|e| e.bay == d.bay) {
+                self.pairs[pair(e, d)][usize::from(d.release < e.release)] += 1;
+                two = true;
+            }
+        }
+        let fan_at = bytes.chunks(RECORD).take_while(|r| r[0] == b'D').count();
+        let place = if fan_at == 0 { 0 } else { 1 + usize::from(fan_at == order.doses.len()) };
+        self.fans[place] += u64::from(two);
+    }
+
+    fn add(&mut self, other: &Rests) {
+        sum(&mut self.rule_1, &other.rule_1);
+        sum(&mut self.no_rule, &other.no_rule);
+        sum(&mut self.fans, &other.fans);
+        self.alone += other.alone;
+        self.sooner += other.sooner;
+        self.pairs.iter_mut().zip(&other.pairs).for_each(|(a, b)| sum(a, b));
+    }
+
+    fn print(&self) {
+        println!("rule 1, by judging    {}", row(&self.rule_1));
+        println!("no rule, by judging   {}", row(&self.no_rule));
+        println!("8 by rule 1           {} by the rest alone, {} with a later place by rule 0", self.alone, self.sooner);
+        let [before, between, behind] = self.fans;
+        println!("two doses of a bay    F before all doses {before}, between them {between}, behind them {behind}");
+        for (kind, [as_in_time, other_way]) in PAIRS.iter().zip(self.pairs) {
+            println!("two windows of a bay  {as_in_time:>9} as in time, {other_way:>6} the other way round  {kind}");
+        }
+    }
+}
+
 impl Streams {
     fn add(&mut self, other: &Streams) {
         sum(&mut self.answers, &other.answers);
@@ -204,6 +279,8 @@ impl Streams {
         self.most_orders = self.most_orders.max(other.most_orders);
         self.old += other.old;
         self.alone += other.alone;
+        self.rested += other.rested;
+        self.short += other.short;
         self.ties += other.ties;
         self.near_ties += other.near_ties;
     }
@@ -216,7 +293,8 @@ impl Streams {
             self.added_up
         );
         println!("orders in streams     {}", row(&self.orders));
-        println!("accepted in streams   {} with trial bays, {} of an F record alone", self.old, self.alone);
+        println!("accepted in streams   {} with trial bays, {} of an F record alone, {} by rule 1", self.old, self.alone, self.rested);
+        println!("refused in streams    {} by the rest alone", self.short);
         println!("greatest first class  {} streams with a tie, {} with a near tie", self.ties, self.near_ties);
     }
 }
@@ -229,6 +307,16 @@ fn sum(a: &mut [u64], b: &[u64]) {
 fn row(list: &[u64]) -> String {
     let met = list.iter().enumerate().filter(|(_, &n)| n > 0);
     met.map(|(i, n)| format!("{i}: {n}")).collect::<Vec<_>>().join(", ")
+}
+
+/// The kind of two windows, by its place in the list.
+fn pair(d: &Dose, e: &Dose) -> usize {
+    let later = d.release.max(e.release);
+    match later.checked_sub(d.deadline.min(e.deadline)) {
+        None => 0,
+        Some(apart) if apart < REST - 1 => 1,
+        Some(apart) => 2 + (apart - (REST - 1)).min(3) as usize,
+    }
 }
 
 /// The kind of a stretch, by its place in the list.

@@ -1,13 +1,8 @@
 //! Test builds only: the errors about trial bays that look right, built into a copy of the reader.
 
-use crate::orders::{number, put, read, Order, Refusal, TrialBays, FIRST_TRIAL_BAY, LAST_BAY, RECORD};
+use crate::orders::{number, put, Order, Refusal, TrialBays, FIRST_TRIAL_BAY, LAST_BAY, RECORD};
 use crate::slipped::Slipped;
 use crate::slips::Slip::*;
-
-/// The fault of one record: 3, 4 or 5.
-fn fault(record: &[u8]) -> Option<u32> {
-    read(record, TrialBays::Open).err().map(|r| r.number).filter(|number| (3..=5).contains(number))
-}
 
 /// The same record in bay 1.
 fn elsewhere(record: &[u8]) -> Vec<u8> {
@@ -36,15 +31,20 @@ impl Slipped {
         record[0] == b'D' && (first..=last).contains(&number(record, 2, 2))
     }
 
+    /// The fault of one record: 3, 4 or 5.
+    fn fault(&self, record: &[u8]) -> Option<u32> {
+        self.read_open(record, true).err().map(|r| r.number).filter(|number| (3..=5).contains(number))
+    }
+
     /// The refusal of one record where trial bays are closed.
     fn refusal(&self, record: &[u8]) -> Option<u32> {
-        let own = fault(record);
+        let own = self.fault(record);
         if !self.names_trial_bay(record) {
             return own;
         }
         match (self.0, own) {
             (FifteenBeforeFive | FifteenBeforeFour, Some(5)) | (FifteenBeforeFour, Some(4)) => Some(15),
-            (PastLastClosed, _) => fault(&elsewhere(record)).or(Some(15)),
+            (PastLastClosed, _) => self.fault(&elsewhere(record)).or(Some(15)),
             (_, own) => own.or(Some(15)),
         }
     }
@@ -62,7 +62,7 @@ impl Slipped {
     }
 
     pub fn read(&self, bytes: &[u8], trial_bays: TrialBays) -> Result<Order, Refusal> {
-        let open = read(bytes, TrialBays::Open);
+        let open = self.read_open(bytes, trial_bays == TrialBays::Closed);
         let closed = self.0 == ClosedToJudging || (trial_bays == TrialBays::Closed && self.0 != PlannedAsBefore);
         let before = open.as_ref().err().is_some_and(|r| match self.0 {
             FifteenAfterRecords => r.number <= 5,

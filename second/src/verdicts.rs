@@ -189,8 +189,8 @@ pub fn standing(c: &mut Checks) {
             ("other shares", other),
         ];
         for (shape, slots) in shapes {
-            // The shares of these three are forced, and blocks are whole seconds, of which cut has one.
-            let free = !matches!((name, shape), ("p2" | "cut" | "old", "other shares") | ("cut", "blocks moved"));
+            // The shares of these four are forced, and blocks are whole seconds, of which cut has one.
+            let free = !matches!((name, shape), ("p2" | "cut" | "old" | "rest", "other shares") | ("cut", "blocks moved"));
             c.same(&format!("{name}, {shape}: another plan"), slots != bench.slots, free);
             bench.right(c, &format!("{name}, {shape}"), &plan_bytes(&bench.house.classes, &slots));
         }
