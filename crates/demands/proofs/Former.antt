@@ -1,10 +1,9 @@
 -- How an order was read before document 02 changed its reading, in the words of the definitions then: before trial bays were closed (C-14) and before
 -- byte 2 of an F named a rule (C-16); and that a stored order is read so still. Assumes nothing.
 use mathlib.Core.Bool.{Bool, true, false, _&&_}
-use mathlib.Core.Path.{_≡_, refl, sym, ap, ap₂, subst, _∙_, fun-ext}
+use mathlib.Core.Path.{_≡_, refl, sym, ap, ap₂, _∙_, fun-ext}
 use mathlib.Core.List.{List, [], _∷_}
 use Prim.Native.Nat.{ℕ, zero, suc, _+_, _/_, _%_, _<_}
-use native.Mathlib.Nat.{zero-add}
 use native.Mathlib.Omega.{arith}
 use borrow.Author.Tests.{eq-eqb, le-leb, ne-eqb}
 use lib.Dec.{T, eqb, eqb→eq, leb}
@@ -15,7 +14,7 @@ use Rattle.model.specs.Records.{Part, field, blank, Reading, read, refused, pic
 use Rattle.model.specs.Orders.{Order, Fans, Dose, Entry, fansEntry, doseEntry, fansOf, doseOf, fansFit, doseFits, bayOpen, checked, entryOf, fansIn, dosesIn, noClash, restBy, orderWith, orderOf, readOrder}
 use Rattle.model.proofs.Sets.{and-left}
 use Rattle.model.proofs.Orders.{bay-most}
-use Rattle.model.proofs.Readings.{First, Listed, Says, all-read, passed, walk-says, went-on}
+use Rattle.model.proofs.Readings.{all-listed, all-read, passed, went-on}
 use Rattle.model.proofs.Rests.{noEntry}
 
 -- ---- the definitions then
@@ -108,9 +107,16 @@ entry-same : (last : ℕ) (r : List ℕ) (i : ℕ) → (getD r 0 0 ≡ fansKind 
 unfolding entryOf
 entry-same last r i z = go (eqb (getD r 0 0) fansKind) refl
   where
-    go : (b : Bool) → eqb (getD r 0 0) fansKind ≡ b
-        → pick b (checked (blankAt fansParts r 0) (fansFit (fansOf r)) true (fansEntry (fansOf r)) i) (pick (eqb (getD r 0 0) doseKind) (doseUpTo last r i) (refused 3 i))
-        ≡ pick b (formerChecked (blankAt formerFansParts r 0) (formerFansFit (formerFansOf r)) (fansEntry (formerFansOf r)) i) (pick (eqb (getD r 0 0) doseKind) (doseUpTo last r i) (refused 3 i))
+    now : Reading Entry
+    now = checked (blankAt fansParts r 0) (fansFit (fansOf r)) true (fansEntry (fansOf r)) i
+
+    then : Reading Entry
+    then = formerChecked (blankAt formerFansParts r 0) (formerFansFit (formerFansOf r)) (fansEntry (formerFansOf r)) i
+
+    others : Reading Entry
+    others = pick (eqb (getD r 0 0) doseKind) (doseUpTo last r i) (refused 3 i)
+
+    go : (b : Bool) → eqb (getD r 0 0) fansKind ≡ b → pick b now others ≡ pick b then others
     go true e = fans-same r (z (eqb→eq _ _ (rw e tt))) i
     go false e = refl
 
@@ -215,9 +221,5 @@ was-read dose order o q i l kind =
     let r = recordAt order i in
     let records = went-on (readAll (formerEntry dose) order) formerOrderOf o (passed (eqb (length order % recordSize) 0 && leb (length order) orderRoom) _ 2 0 o q .1) in
     let es = records .0 in
-    let listed = subst (λ (x : Reading (List Entry)). Says x (Listed (formerEntry dose) order noEntry 0 n) (First (formerEntry dose) order noEntry 0 n)) (records .1) (walk-says (formerEntry dose) order noEntry n 0) in
-    let at : formerEntry dose r i ≡ read (getD es i noEntry) = ap (λ (k : ℕ). formerEntry dose (recordAt order k) k) (sym (zero-add i)) ∙ listed .1 i l in
+    let at : formerEntry dose r i ≡ read (getD es i noEntry) = all-listed (formerEntry dose) order noEntry es (records .1) .1 i l in
     fans-was r (passed (blankAt formerFansParts r 0) _ 4 i (getD es i noEntry) (rw (eq-eqb (getD r 0 0) fansKind kind) at at) .0)
-  where
-    n : ℕ
-    n = length order / recordSize

@@ -3,13 +3,13 @@ use mathlib.Core.Bool.{Bool, true, false, not}
 use mathlib.Core.Logic.{inl, inr}
 use mathlib.Core.Path.{_≡_, refl, sym, ap, subst, _∙_}
 use mathlib.Core.List.{List, [], _∷_}
-use Prim.Native.Nat.{ℕ, zero, suc, _+_, _<_}
-use native.Mathlib.Nat.{add-zero, eq-or-lt-of-le}
+use Prim.Native.Nat.{ℕ, zero, suc, _+_, _/_, _<_}
+use native.Mathlib.Nat.{add-zero, eq-or-lt-of-le, zero-add}
 use native.Mathlib.Omega.{arith}
 use lib.Dec.{T}
 use lib.ListN.{length, getD}
 use lib.Seq.{ext-getD}
-use Rattle.model.specs.Records.{pick, Reading, read, refused, andThen, recordAt, readFrom}
+use Rattle.model.specs.Records.{pick, Reading, read, refused, andThen, recordSize, recordAt, readFrom, readAll}
 use Rattle.model.specs.Lists.{All, none, also}
 use Rattle.model.proofs.Fractions.{compare≤}
 
@@ -112,6 +112,14 @@ module _ {A : Type 0} (each : List ℕ → ℕ → Reading A) (bytes : List ℕ)
       go (read a) e (read l) s = (ap suc (s .0), listed a l e (s .1))
       go (read a) e (refused number place) s = (suc (s .0), omega (arith, s .1), reads a (s .0) e (s .2), next (s .0) ∙ s .3)
       go (refused number place) e y s = (0, omega arith, λ h q. absurd (omega arith), now e)
+
+  -- all records are read: each is as its member of the list
+  pub all-listed : (l : List A) → readAll each bytes ≡ read l
+      → (length l ≡ length bytes / recordSize) × ((k : ℕ) → k < length bytes / recordSize → at k ≡ read (getD l k d))
+  all-listed l e =
+      let n = length bytes / recordSize in
+      let s = subst (λ (x : Reading (List A)). Says x (Listed 0 n) (First 0 n)) e (walk-says n 0) in
+      (s .0, λ k q. ap (λ (h : ℕ). at h) (sym (zero-add k)) ∙ s .1 k q)
 
   -- all are read: so is the walk
   pub walk-read : (n i : ℕ) (l : List A) → Listed i n l → readFrom each bytes i n ≡ read l

@@ -206,7 +206,7 @@ module _ (rest : ℕ) where
             with-clashes x front (o .earlier) (o .other) (omega (arith, o .before)) (sym (in-front front es (doseEntry x) i a l (o .earlier) (o .before)) ∙ o .was)
             (rw same at (o .overlap))
 
-  -- 8 is given for the first, and is not where there is so-far
+  -- 8 is given for the first, and is not where there is none
   pub first-clash : (es : List Entry) → Says (noClash rest [] 0 es) (NoOverlaps es) (FirstOverlap es)
   unfolding dosesIn
   first-clash es = clash-says es es [] [] 0 refl refl refl (λ k l. absurd (omega arith))

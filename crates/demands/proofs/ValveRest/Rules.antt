@@ -1,10 +1,9 @@
 -- The rule that an F names: from its byte to the order's rest, out of its range, and another rule in its place. Assumes nothing.
 use mathlib.Core.Bool.{Bool, true, false, not, _&&_}
 use mathlib.Core.Logic.{_⊎_, inl, inr}
-use mathlib.Core.Path.{_≡_, refl, sym, ap, subst, _∙_}
+use mathlib.Core.Path.{_≡_, refl, ap, _∙_}
 use mathlib.Core.List.{List, [], _∷_, _++_, map}
 use Prim.Native.Nat.{ℕ, zero, suc, _/_, _%_, _≤_, _<_}
-use native.Mathlib.Nat.{zero-add}
 use native.Mathlib.Omega.{arith}
 use borrow.Author.Tests.{eq-eqb, le-leb, lt-leb}
 use lib.Dec.{T, eqb, eqb→eq, leb, leb→le}
@@ -14,7 +13,7 @@ use Rattle.model.specs.Records.{Reading, read, refused, pick, within, andThen, 
 use Rattle.model.specs.Orders.{Order, Fans, Dose, Entry, fansEntry, doseEntry, fansOf, fansFit, entryOf, fansIn, dosesIn, clashesAny, noClash, restBy, orderWith, orderIn, orderOf, readOrder}
 use Rattle.model.proofs.Given.{OutOfRange, range, record-exactly}
 use Rattle.model.proofs.Orders.{order-in}
-use Rattle.model.proofs.Readings.{First, Listed, Says, passed, walk-says, went-on}
+use Rattle.model.proofs.Readings.{all-listed, passed, went-on}
 use Rattle.model.proofs.Rests.{apart-shorter, noEntry}
 
 -- ---- the rule of a record
@@ -76,15 +75,11 @@ unfolding readOrder orderOf
 rest-named last order o q i l kind =
     let records = went-on (readAll (entryOf last) order) orderOf o (passed (eqb (length order % recordSize) 0 && leb (length order) orderRoom) _ 2 0 o q .1) in
     let es = records .0 in
-    let listed = subst (λ (x : Reading (List Entry)). Says x (Listed (entryOf last) order noEntry 0 n) (First (entryOf last) order noEntry 0 n)) (records .1) (walk-says (entryOf last) order noEntry n 0) in
-    let at : entryOf last (recordAt order i) i ≡ read (getD es i noEntry) = ap (λ (k : ℕ). entryOf last (recordAt order k) k) (sym (zero-add i)) ∙ listed .1 i l in
+    let listed = all-listed (entryOf last) order noEntry es (records .1) in
     let one = eqb→eq (length (fansIn es)) 1 (passed (eqb (length (fansIn es)) 1) _ 6 0 o (records .2) .0) in
     ap (λ (x : Order). x .rest) (order-in es o (records .2))
-    ∙ one-fans es i (fansOf (recordAt order i)) (omega (arith, listed .0)) (fans-read last (recordAt order i) i (getD es i noEntry) kind at) one (dosesIn es)
+    ∙ one-fans es i (fansOf (recordAt order i)) (omega (arith, listed .0)) (fans-read last (recordAt order i) i (getD es i noEntry) kind (listed .1 i l)) one (dosesIn es)
     ∙ ap restBy (rule-byte (recordAt order i))
-  where
-    n : ℕ
-    n = length order / recordSize
 
 pub two-rests : (last : ℕ) (order : List ℕ) (o : Order) → readOrder last order ≡ read o → (o .rest ≡ 0) ⊎ (o .rest ≡ valveRest)
 unfolding readOrder
