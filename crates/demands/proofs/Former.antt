@@ -1,7 +1,7 @@
 -- How an order was read before document 02 changed its reading, in the words of the definitions then: before trial bays were closed (C-14) and before
 -- byte 2 of an F named a rule (C-16); and that a stored order is read so still. Assumes nothing.
 use mathlib.Core.Bool.{Bool, true, false, _&&_}
-use mathlib.Core.Path.{_≡_, refl, sym, ap, ap₂, _∙_, fun-ext}
+use mathlib.Core.Path.{_≡_, refl, sym, ap, ap₂, subst, _∙_, fun-ext}
 use mathlib.Core.List.{List, [], _∷_}
 use Prim.Native.Nat.{ℕ, zero, suc, _+_, _/_, _%_, _<_}
 use native.Mathlib.Omega.{arith}
@@ -16,6 +16,7 @@ use Rattle.model.proofs.Sets.{and-left}
 use Rattle.model.proofs.Orders.{bay-most}
 use Rattle.model.proofs.Readings.{all-listed, all-read, passed, went-on}
 use Rattle.model.proofs.Rests.{noEntry}
+use Rattle.demands.proofs.Season.OneFans.{checked-is}
 
 -- ---- the definitions then
 
@@ -158,19 +159,12 @@ module _ (last : ℕ) where
       dose : Dose
       dose = doseOf r
 
-      same : (a : Entry) → NamesZero a → read a ≡ read e → NamesZero e
-      same a n q = let is : a ≡ e = cc in rw is at n
-
       go : (f d : Bool) → pick f (formerChecked (blankAt formerFansParts r 0) (formerFansFit fans) (fansEntry fans) i) (pick d (doseUpTo last r i) (refused 3 i)) ≡ read e
           → NamesZero e
-      go true d q =
-          let clear = passed (blankAt formerFansParts r 0) _ 4 i e q in
-          same (fansEntry fans) refl (passed (formerFansFit fans) _ 5 i e (clear .1) .1)
+      go true d q = subst NamesZero (checked-is (blankAt formerFansParts r 0) (formerFansFit fans) true (fansEntry fans) i e q) refl
       go false d q =
           let is-dose = passed d _ 3 i e q in
-          let clear = passed (blankAt doseParts r 0) _ 4 i e (is-dose .1) in
-          let fits = passed (doseFits dose) _ 5 i e (clear .1) in
-          same (doseEntry dose) tt (passed (bayOpen last dose) _ 15 i e (fits .1) .1)
+          subst NamesZero (checked-is (blankAt doseParts r 0) (doseFits dose) (bayOpen last dose) (doseEntry dose) i e (is-dose .1)) tt
 
 -- and has no rest
 rest-zero : (es : List Entry) (ds : List Dose) → All NamesZero es → orderWith (fansIn es) ds .rest ≡ 0

@@ -3,7 +3,7 @@ use mathlib.Core.Bool.{Bool, true, false}
 use mathlib.Core.List.{List, [], _∷_}
 use mathlib.Core.Logic.{_≢_}
 use mathlib.Core.Path.{_≡_, refl, ap, _∙_, sym}
-use Prim.Native.Nat.{ℕ, zero, suc, _+_, _*_, _-_, _/_, _<_, _≤_}
+use Prim.Native.Nat.{ℕ, zero, suc, _+_, _*_, _/_, _<_, _≤_}
 use native.Mathlib.Omega.{arith}
 use lib.Dec.{eqb}
 use lib.ListN.{length, getD, take, drop, take-append-drop, length-drop}
@@ -37,7 +37,7 @@ fans-total (fansEntry f ∷ es) = omega (arith, fans-total es)
 fans-total (doseEntry d ∷ es) = omega (arith, fans-total es)
 
 -- a check that passes hands back what it was given
-checked-is : (a b c : Bool) (x : Entry) (i : ℕ) (e : Entry) → checked a b c x i ≡ read e → x ≡ e
+pub checked-is : (a b c : Bool) (x : Entry) (i : ℕ) (e : Entry) → checked a b c x i ≡ read e → x ≡ e
 checked-is true true true x i e h = cc
 checked-is true true false x i e h = absurd (no-refusal 15 i e h)
 checked-is true false c x i e h = absurd (no-refusal 5 i e h)

@@ -1,7 +1,7 @@
 -- The rule that an F names: from its byte to the order's rest, out of its range, and another rule in its place. Assumes nothing.
 use mathlib.Core.Bool.{Bool, true, false, not, _&&_}
 use mathlib.Core.Logic.{_⊎_, inl, inr}
-use mathlib.Core.Path.{_≡_, refl, ap, _∙_}
+use mathlib.Core.Path.{_≡_, refl, sym, ap, _∙_}
 use mathlib.Core.List.{List, [], _∷_, _++_, map}
 use Prim.Native.Nat.{ℕ, zero, suc, _/_, _%_, _≤_, _<_}
 use native.Mathlib.Omega.{arith}
@@ -15,6 +15,7 @@ use Rattle.model.proofs.Given.{OutOfRange, range, record-exactly}
 use Rattle.model.proofs.Orders.{order-in}
 use Rattle.model.proofs.Readings.{all-listed, passed, went-on}
 use Rattle.model.proofs.Rests.{apart-shorter, noEntry}
+use Rattle.demands.proofs.Season.OneFans.{checked-is}
 
 -- ---- the rule of a record
 
@@ -41,16 +42,18 @@ rule-out-of-range last r i kind clear above = record-exactly last r i 5 i .1 (ra
 
 -- ---- the rule of an order
 
--- an F record that is read
-fans-read : (last : ℕ) (r : List ℕ) (i : ℕ) (e : Entry) → getD r 0 0 ≡ fansKind → entryOf last r i ≡ read e → e ≡ fansEntry (fansOf r)
+-- the records of an order that was read
+records-of : (last : ℕ) (order : List ℕ) (o : Order) → readOrder last order ≡ read o
+    → (es : List Entry) × (readAll (entryOf last) order ≡ read es) × (orderOf es ≡ read o)
+unfolding readOrder
+records-of last order o q =
+    went-on (readAll (entryOf last) order) orderOf o (passed (eqb (length order % recordSize) 0 && leb (length order) orderRoom) _ 2 0 o q .1)
+
+-- an F record among them
+read-as-fans : (last : ℕ) (r : List ℕ) (i : ℕ) (e : Entry) → getD r 0 0 ≡ fansKind → entryOf last r i ≡ read e → e ≡ fansEntry (fansOf r)
 unfolding entryOf
-fans-read last r i e kind q =
-    let clear = passed (blankAt fansParts r 0) _ 4 i e (rw (eq-eqb (getD r 0 0) fansKind kind) at q) in
-    let fits = passed (fansFit (fansOf r)) _ 5 i e (clear .1) in
-    same (fits .1)
-  where
-    same : read (fansEntry (fansOf r)) ≡ read e → e ≡ fansEntry (fansOf r)
-    same z = cc
+read-as-fans last r i e kind q =
+    sym (checked-is (blankAt fansParts r 0) (fansFit (fansOf r)) true (fansEntry (fansOf r)) i e (rw (eq-eqb (getD r 0 0) fansKind kind) at q))
 
 -- where one F is among the records, it is the one that is found there
 some-fans : (es : List Entry) (k : ℕ) (f : Fans) → k < length es → getD es k noEntry ≡ fansEntry f → 1 ≤ length (fansIn es)
@@ -71,20 +74,19 @@ one-fans (doseEntry d ∷ es) (suc k) f l e one ds = one-fans es k f (omega arit
 
 pub rest-named : (last : ℕ) (order : List ℕ) (o : Order) → readOrder last order ≡ read o
     → (i : ℕ) → i < length order / recordSize → getD (recordAt order i) 0 0 ≡ fansKind → o .rest ≡ restBy (getD (recordAt order i) 2 0)
-unfolding readOrder orderOf
+unfolding orderOf
 rest-named last order o q i l kind =
-    let records = went-on (readAll (entryOf last) order) orderOf o (passed (eqb (length order % recordSize) 0 && leb (length order) orderRoom) _ 2 0 o q .1) in
+    let records = records-of last order o q in
     let es = records .0 in
     let listed = all-listed (entryOf last) order noEntry es (records .1) in
     let one = eqb→eq (length (fansIn es)) 1 (passed (eqb (length (fansIn es)) 1) _ 6 0 o (records .2) .0) in
     ap (λ (x : Order). x .rest) (order-in es o (records .2))
-    ∙ one-fans es i (fansOf (recordAt order i)) (omega (arith, listed .0)) (fans-read last (recordAt order i) i (getD es i noEntry) kind (listed .1 i l)) one (dosesIn es)
+    ∙ one-fans es i (fansOf (recordAt order i)) (omega (arith, listed .0)) (read-as-fans last (recordAt order i) i (getD es i noEntry) kind (listed .1 i l)) one (dosesIn es)
     ∙ ap restBy (rule-byte (recordAt order i))
 
 pub two-rests : (last : ℕ) (order : List ℕ) (o : Order) → readOrder last order ≡ read o → (o .rest ≡ 0) ⊎ (o .rest ≡ valveRest)
-unfolding readOrder
 two-rests last order o q =
-    let records = went-on (readAll (entryOf last) order) orderOf o (passed (eqb (length order % recordSize) 0 && leb (length order) orderRoom) _ 2 0 o q .1) in
+    let records = records-of last order o q in
     rw (order-in (records .0) o (records .2)) (either (fansIn (records .0)) (dosesIn (records .0)))
   where
     by-test : (b : Bool) → (pick b 0 valveRest ≡ 0) ⊎ (pick b 0 valveRest ≡ valveRest)
