@@ -93,6 +93,7 @@ module _ (S : Setting) (row : Row) (A : Doses) (x : ℕ → ℕ → ℕ) where
     module _ (R : Doses) (Q : ℕ → Bool) (c : Closed S row A x R Q) where
       -- a dose of R has all of an interval that is not in Q
       whole_share : (k j : ℕ) (a s : Bool) → active k j ≡ a → Q j ≡ s → k < n → j < J → T (R k) → T (not s) → on a (unit j) ≤ x k j
+      whole_share k j true true e g l m r t = elim t [ ]
       whole_share k j false s e g l m r t = omega arith
       whole_share k j true false e g l m r t = elim (compare≤ (unit j) (x k j)) [
         | inl h ↦ h

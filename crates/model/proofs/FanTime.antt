@@ -83,6 +83,7 @@ module _ (S : Setting) where
       )
     where
       joined : (a b : Bool) → T (a || b) → T (a || b && not a)
+      joined false false t = elim t [ ]
       joined true b t = tt
       joined false true t = tt
 

@@ -24,6 +24,7 @@ pub data Member (v : ℕ) : List ℕ → Type 0 where
 
 -- what holds of all holds of a member
 pub of_member : (P : ℕ → Type 0) {l : List ℕ} → All P l → (v : ℕ) → Member v l → P v
+of_member P none v x3 = elim x3 [ ]
 of_member P (also p a) v (here e) = rw e p
 of_member P (also p a) v (there m) = of_member P a v m
 
@@ -64,6 +65,7 @@ insert_has n (x ∷ l) =
     ]
 
 insert_keeps : (n : ℕ) (l : List ℕ) (v : ℕ) → Member v l → Member v (insert n l)
+insert_keeps n [] v m = elim m [ ]
 insert_keeps n (x ∷ l) v m =
     let ih = insert_keeps n l v in
     elim (where_to n x) [
@@ -77,6 +79,7 @@ insert_keeps n (x ∷ l) v m =
 
 insert_only : (n : ℕ) (l : List ℕ) (v : ℕ) → Member v (insert n l) → (v ≡ n) ⊎ Member v l
 unfolding insert
+insert_only n [] v (there x5) = elim x5 [ ]
 insert_only n [] v (here e) = inl e
 insert_only n (x ∷ l) v m =
     let ih = insert_only n l v in
@@ -138,6 +141,7 @@ instants_sorted (d ∷ ds) = insert_rises d.release _ (insert_rises d.deadline _
 -- every release and every deadline is one
 pub instants_have : (ds : List Dose) (v : ℕ) → Bound v ds → Member v (instants ds)
 unfolding instants
+instants_have [] v x' = elim x' [ ]
 instants_have (d ∷ ds) v (opens e) = rw e (insert_has d.release (insert d.deadline (instants ds)))
 instants_have (d ∷ ds) v (closes e) = rw e (insert_keeps d.release _ _ (insert_has d.deadline (instants ds)))
 instants_have (d ∷ ds) v (later b) = insert_keeps d.release _ v (insert_keeps d.deadline _ v (instants_have ds v b))
@@ -145,6 +149,7 @@ instants_have (d ∷ ds) v (later b) = insert_keeps d.release _ v (insert_keeps 
 -- and nothing else is
 pub instants_only : (ds : List Dose) (v : ℕ) → Member v (instants ds) → Bound v ds
 unfolding instants
+instants_only [] v m = elim m [ ]
 instants_only (d ∷ ds) v m =
     let ih = instants_only ds v in
     elim (insert_only d.release (insert d.deadline (instants ds)) v m) [
@@ -180,12 +185,14 @@ rises_by_one (x ∷ l) (then a r) (suc i) h = rises_by_one l r i (le_of_suc-le-s
 
 -- a member is at most what stands at place j, or at least what stands at the next
 beside : (l : List ℕ) → Rising l → (v : ℕ) → Member v l → (j : ℕ) → suc j < length l → (v ≤ get_or l j 0) ⊎ (get_or l (suc j) 0 ≤ v)
+beside [] _ v x4 j h = elim x4 [ ]
 beside (x ∷ l) (then a r) v (here e) zero h = inl (omega arith)
 beside (x ∷ l) (then a r) v (here e) (suc j) h =
     inl (omega (arith, of_member (λ y. x < y) a (get_or l j 0) (member_at l j (omega arith))))
 beside (x ∷ l) (then a r) v (there m) zero h = inr (first l r m)
   where
     first : (l : List ℕ) → Rising l → Member v l → get_or l 0 0 ≤ v
+    first [] _ m = elim m [ ]
     first (y ∷ l) (then b s) m = head_least v y l b m
 beside (x ∷ l) (then a r) v (there m) (suc j) h = beside l r v m j (le_of_suc-le-suc h)
 
@@ -202,6 +209,7 @@ bound_deadline (d ∷ ds) (suc k) h = later (bound_deadline ds k (le_of_suc-le-s
 -- what holds of every release and deadline holds of every bound
 every_bound : (P : ℕ → Type 0) (ds : List Dose) → ((k : ℕ) → k < length ds → P (get_or ds k no_dose).release) → ((k : ℕ) → k < length ds → P (get_or ds k no_dose).deadline)
     → (v : ℕ) → Bound v ds → P v
+every_bound P [] f g v x3 = elim x3 [ ]
 every_bound P (d ∷ ds) f g v (opens e) = rw e (f 0 (omega arith))
 every_bound P (d ∷ ds) f g v (closes e) = rw e (g 0 (omega arith))
 every_bound P (d ∷ ds) f g v (later b) = every_bound P ds (λ k l. f (suc k) (omega arith)) (λ k l. g (suc k) (omega arith)) v b

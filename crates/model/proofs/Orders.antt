@@ -99,10 +99,17 @@ in_range lo hi v t = (leb→le lo v (and_left (leb lo v) (leb v hi) t), leb→le
 
 -- the parts of a test of four parts
 pub four : (a b c d : Bool) → T (a && b && c && d) → T a × T b × T c × T d
+four false b c d t = elim t [ ]
+four true false c d t = elim t [ ]
+four true true false d t = elim t [ ]
+four true true true false t = elim t [ ]
 four true true true true t = (tt, tt, tt, tt)
 
 -- and of three
 pub three : (a b c : Bool) → T (a && b && c) → T a × T b × T c
+three false b c t = elim t [ ]
+three true false c t = elim t [ ]
+three true true false t = elim t [ ]
 three true true true t = (tt, tt, tt)
 
 -- "bay, 1 to 999"

@@ -22,6 +22,7 @@ use Rattle.model.proofs.Readings.{no_refusal, Says, refusal_says, says_pick}
 
 -- neither of two tests holds
 neither : (a b : Bool) → T (not (a || b)) → T (not a) × T (not b)
+neither true b u = elim u [ ]
 neither false b u = (tt, u)
 
 -- ---- no clash
@@ -121,6 +122,7 @@ module _ (rest : ℕ) where
   clashes_with : (d : Dose) (front : List Entry) → T (clashes_any rest d (doses_in front))
       → (h : ℕ) × (h < length front) × (e : Dose) × (get_or front h no_entry ≡ dose_entry e) × Overlap rest d e
   unfolding doses_in clashes_any
+  clashes_with d [] t = elim t [ ]
   clashes_with d (fans_entry f ∷ front) t = let r = clashes_with d front t in (suc r.0, omega (arith, r.1), r.2, r.3, r.4)
   clashes_with d (dose_entry e ∷ front) t =
       let later = clashes_with d front in

@@ -46,6 +46,7 @@ remaining_or C i k = go (upto C i k) refl
 -- a member of a union is in one of its sets
 pub upto_find : (C : ℕ → Doses) (i k : ℕ) → T (upto C i k) → (l : ℕ) × (l < i) × T (C l k)
 unfolding upto
+upto_find C zero k t = elim t [ ]
 upto_find C (suc i) k t =
     let ih = upto_find C i k in
     or_elim (upto C i k) (C i k) t (λ u. let r = ih u in (r.0, omega arith, r.2)) (λ u. (i, omega arith, u))

@@ -68,14 +68,18 @@ on_part false true x = omega arith
 on_part a false x = omega arith
 
 on_lt : (a b : Bool) (x : ℕ) → T (not a) → T b → 0 < x → on a x < on b x
+on_lt false false x h t p = elim t [ ]
+on_lt true b x h t p = elim h [ ]
 on_lt false true x h t p = p
 
 -- both tests hold: so does the left
 pub and_left : (a b : Bool) → T (a && b) → T a
+and_left false b t = elim t [ ]
 and_left true b t = tt
 
 -- and the right
 pub and_right : (a b : Bool) → T (a && b) → T b
+and_right false b t = elim t [ ]
 and_right true b t = t
 
 -- a conjunction that is true: so are both tests
@@ -85,11 +89,13 @@ both_true false b h = absurd (true≢false (sym h))
 
 -- a member of B is not in A without B
 pub and_not : (a b : Bool) → T b → T (not (a && not b))
+and_not true false t = elim t [ ]
 and_not true true t = tt
 and_not false b t = tt
 
 -- both hold: so does their conjunction
 pub and_both : (a b : Bool) → T a → T b → T (a && b)
+and_both false b s t = elim s [ ]
 and_both true b s t = t
 
 -- tests that give each other are the same
@@ -109,6 +115,7 @@ or_right false b t = t
 
 -- what is in the left part is in either
 pub or_left : (a b : Bool) → T a → T (a || b)
+or_left false b t = elim t [ ]
 or_left true b t = tt
 
 -- what is in either is in the left or the right
@@ -123,6 +130,7 @@ on_pos false x h = omega arith
 
 -- the test holds: the number
 pub on_yes : (a : Bool) (x : ℕ) → T a → on a x ≡ x
+on_yes false x h = elim h [ ]
 on_yes true x h = refl
 
 -- it does not: none
