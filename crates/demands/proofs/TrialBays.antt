@@ -60,7 +60,7 @@ pub record FirstTrial (order : List ℕ) (i : ℕ) : Type 0 where
   pub trial : TrialBay (record_at order i)
 
 closed_trial : {r : List ℕ} → ClosedBay last_open_bay r → TrialBay r
-closed_trial {r} c = record { is_dose = c.is_dose; blank = c.blank; fits = c.ranges; trial = (c.closed, bay_most (dose_of r) c.ranges) }
+closed_trial {r} c = record { is_dose = c.is_dose; blank = c.blank; fits = c.fits; trial = (c.closed, bay_most (dose_of r) c.fits) }
 
 trial_closed : {r : List ℕ} → TrialBay r → ClosedBay last_open_bay r
 trial_closed t = record { is_dose = t.is_dose; blank = t.blank; fits = t.fits; closed = t.trial.0 }

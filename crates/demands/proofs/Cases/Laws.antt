@@ -76,6 +76,7 @@ every_set_lem (suc n) f t B =
 
 -- where the one test holds, so does the other
 then_so : (a b : Bool) → T (not a || b) → T a → T b
+then_so false b t s = elim s [ ]
 then_so true b t s = t
 
 so_then : (a b : Bool) → (T a → T b) → T (not a || b)
@@ -104,6 +105,7 @@ module _ (S : Setting) where
   ]
     where
       double : (b : Bool) → T (not (not b)) → T b
+      double false u = elim u [ ]
       double true u = tt
 
   some_back : (A : Doses) → Nonempty n A → T (some_test S A)
@@ -157,6 +159,8 @@ module _ (S : Setting) where
 
 pub same_list_lem : {A : Type 0} (same : A → A → Bool) → ((a b : A) → T (same a b) → a ≡ b) → (l m : List A) → T (same_list same l m) → l ≡ m
 unfolding same_list
+same_list_lem {A = A} same h [] (b ∷ m) t = elim t [ ]
+same_list_lem {A = A} same h (a ∷ l) [] t = elim t [ ]
 same_list_lem same h [] [] t = refl
 same_list_lem same h (a ∷ l) (b ∷ m) t =
     ap₂ (λ x y. x ∷ y) (h a b (and_left (same a b) (same_list same l m) t)) (same_list_lem same h l m (and_right (same a b) (same_list same l m) t))
@@ -202,6 +206,18 @@ same_slot_lem a b t =
 
 same_state_lem : (a b : State) → T (same_state a b) → a ≡ b
 unfolding same_state
+same_state_lem finished shut t = elim t [ ]
+same_state_lem finished idle t = elim t [ ]
+same_state_lem finished (dosing g) t = elim t [ ]
+same_state_lem shut finished t = elim t [ ]
+same_state_lem shut idle t = elim t [ ]
+same_state_lem shut (dosing g) t = elim t [ ]
+same_state_lem idle finished t = elim t [ ]
+same_state_lem idle shut t = elim t [ ]
+same_state_lem idle (dosing g) t = elim t [ ]
+same_state_lem (dosing f) finished t = elim t [ ]
+same_state_lem (dosing f) shut t = elim t [ ]
+same_state_lem (dosing f) idle t = elim t [ ]
 same_state_lem finished finished t = refl
 same_state_lem shut shut t = refl
 same_state_lem idle idle t = refl
@@ -228,4 +244,5 @@ same_answer_lem a b t =
 
 pub empty_list_lem : {A : Type 0} (l : List A) → T (empty_list l) → l ≡ []
 unfolding empty_list
+empty_list_lem {A = A} (_ ∷ _) t = elim t [ ]
 empty_list_lem [] t = refl

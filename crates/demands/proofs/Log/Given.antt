@@ -82,6 +82,8 @@ some_fails true false c t = inr (inl tt)
 some_fails false b c t = inl tt
 
 one_fails : (a b c : Bool) → T (not a) ⊎ (T (not b) ⊎ T (not c)) → (a && b && c) ≡ false
+one_fails true true true (inl x') = elim x' [ ]
+one_fails true true true (inr (inl x3)) = elim x3 [ ]
 one_fails true true true (inr (inr t)) = absurd t
 one_fails true true false s = refl
 one_fails true false c s = refl

@@ -28,6 +28,7 @@ trial_row_right c t = record {
     old = reading_test c.old (read_order most_bay c.old.order)
 
     is_closed : (x : Reading Order) → T (closed_test c.place x) → x ≡ refused 15 c.place
+    is_closed (Rattle.model.specs.Records.read _) u = elim u [ ]
     is_closed (refused number place) u =
         let n = eqb→eq number 15 (and_left (eqb number 15) (eqb place c.place) u) in
         let p = eqb→eq place c.place (and_right (eqb number 15) (eqb place c.place) u) in

@@ -50,6 +50,7 @@ EntryPast last (dose_entry d) = last < d.bay
 -- then the doses of the records have, in front and behind
 past_first : (last : ℕ) (e : Entry) (es : List Entry) → EntryPast last e → SomePast last (doses_in (e ∷ es))
 unfolding EntryPast doses_in
+past_first last (fans_entry _) es l = elim l [ ]
 past_first last (dose_entry d) es l = (0, omega arith, l)
 
 past_later : (last : ℕ) (e : Entry) (es : List Entry) → SomePast last (doses_in es) → SomePast last (doses_in (e ∷ es))
