@@ -137,7 +137,7 @@ module _ (t : ℕ) where
         (sized_now asked.0 tried.shares, bounded_same new.bounded tried.same, (dose-test way).loop-test.true, asked.3),
       )
 
-  from-dose-add-shares : from-dose-lts.Need-overflow-add-shares (from-dose-claims t) (from-dose-at t) from-dose.Post from-dose-Inv-loop from-dose-μ-loop
+  from-dose-add-shares : from-dose-lts.Need-overflow_add-shares (from-dose-claims t) (from-dose-at t) from-dose.Post from-dose-Inv-loop from-dose-μ-loop
   from-dose-add-shares c =
       let called = c.before.before.before.before.before in
       let way = dose-way called in
@@ -225,7 +225,7 @@ module _ (t : ℕ) where
       let asked = c.before.before.before.before.before.requires.1 in
       interval_stops _ asked.2 asked.1 (λ h. c.if2.true)
 
-  from-interval-interval-total-requires : from-interval-lts.Need-interval-total-requires (from-interval-claims t) (from-interval-at t) from-interval.Post from-interval-Inv-loop from-interval-μ-loop
+  from-interval-interval-total-requires : from-interval-lts.Need-interval_total-requires (from-interval-claims t) (from-interval-at t) from-interval.Post from-interval-Inv-loop from-interval-μ-loop
   from-interval-interval-total-requires c κs =
       let asked = (interval-entry c.before.before).pre.1 in
       (asked.0.shares, asked.2, asked.1.held _ asked.2)
@@ -266,7 +266,7 @@ module _ (t : ℕ) where
         (sized_now asked.0 tried.shares, bounded_same new.bounded tried.same, (interval-test way).loop-test.true, asked.3),
       )
 
-  from-interval-sub-shares : from-interval-lts.Need-overflow-sub-shares (from-interval-claims t) (from-interval-at t) from-interval.Post from-interval-Inv-loop from-interval-μ-loop
+  from-interval-sub-shares : from-interval-lts.Need-overflow_sub-shares (from-interval-claims t) (from-interval-at t) from-interval.Post from-interval-Inv-loop from-interval-μ-loop
   from-interval-sub-shares c =
       let called = c.before.before.before.before.before in
       let way = interval-way called in
@@ -313,8 +313,8 @@ module _ (t : ℕ) where
       interval_fails _ (interval-entry mark).pre.1.2 (interval-new mark) short.before.before.interval-total.ensures short.before.less.ensures short.if3.false
       loop.loop.invariant c.loop-test.false
 
-pub +from-dose-from-interval-spec : {M : Type 1} → statement M
-+from-dose-from-interval-spec = close μ-from-dose μ-from-interval (λ t. from-dose-lts.spec (from-dose-claims t)
+pub +from_dose_from_interval_spec : {M : Type 1} → statement M
++from_dose_from_interval_spec = close μ-from-dose μ-from-interval (λ t. from-dose-lts.spec (from-dose-claims t)
     (from-dose-at t)
     from-dose.Post
     from-dose-Inv-loop

@@ -17,23 +17,23 @@ decreases-loop x d need s₀ j₀ s j = most_intervals - j
 loop-holds : tie.Need-loop-init invariant-loop decreases-loop
 loop-holds c = added_none
 
-mul-sum : tie.Need-overflow-mul-sum invariant-loop decreases-loop
+mul-sum : tie.Need-overflow_mul-sum invariant-loop decreases-loop
 mul-sum c = search rules
 
-add-sum : tie.Need-overflow-add-sum invariant-loop decreases-loop
+add-sum : tie.Need-overflow_add-sum invariant-loop decreases-loop
 add-sum c = search rules
 
-mul-sum-2 : tie.Need-overflow-mul-sum-2 invariant-loop decreases-loop
+mul-sum-2 : tie.Need-overflow_mul-sum-2 invariant-loop decreases-loop
 mul-sum-2 c = search rules
 
 shared-slice-read-sum : tie.Need-shared-slice-read-sum invariant-loop decreases-loop
 shared-slice-read-sum c = search rules
 
-add-sum-2 : tie.Need-overflow-add-sum-2 invariant-loop decreases-loop
+add-sum-2 : tie.Need-overflow_add-sum-2 invariant-loop decreases-loop
 unfolding got
 add-sum-2 c = omega (arith, added_most c.before.before.loop.invariant c.before.loop-test.true, c.before.before.before.requires.2)
 
-add-j : tie.Need-overflow-add-j invariant-loop decreases-loop
+add-j : tie.Need-overflow_add-j invariant-loop decreases-loop
 add-j c = search rules
 
 loop-less : tie.Need-loop-smaller invariant-loop decreases-loop
@@ -46,8 +46,8 @@ returns : tie.Need-returns invariant-loop decreases-loop
 unfolding got
 returns c = added_all c.before.loop.invariant (omega arith)
 
-pub dose-total-spec : {M : Type 1} → statement M
-dose-total-spec =
+pub dose_total_spec : {M : Type 1} → statement M
+dose_total_spec =
     tie.close
     (tie.spec
     invariant-loop

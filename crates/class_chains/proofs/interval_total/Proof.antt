@@ -17,23 +17,23 @@ decreases-loop x j holds s₀ d₀ s d = most_doses - d
 loop-holds : tie.Need-loop-init invariant-loop decreases-loop
 loop-holds c = added_none
 
-mul-sum : tie.Need-overflow-mul-sum invariant-loop decreases-loop
+mul-sum : tie.Need-overflow_mul-sum invariant-loop decreases-loop
 mul-sum c = search rules
 
-add-sum : tie.Need-overflow-add-sum invariant-loop decreases-loop
+add-sum : tie.Need-overflow_add-sum invariant-loop decreases-loop
 add-sum c = search rules
 
-mul-sum-2 : tie.Need-overflow-mul-sum-2 invariant-loop decreases-loop
+mul-sum-2 : tie.Need-overflow_mul-sum-2 invariant-loop decreases-loop
 mul-sum-2 c = search rules
 
 shared-slice-read-sum : tie.Need-shared-slice-read-sum invariant-loop decreases-loop
 shared-slice-read-sum c = search rules
 
-add-sum-2 : tie.Need-overflow-add-sum-2 invariant-loop decreases-loop
+add-sum-2 : tie.Need-overflow_add-sum-2 invariant-loop decreases-loop
 unfolding given
 add-sum-2 c = omega (arith, added_most c.before.before.loop.invariant c.before.loop-test.true, c.before.before.before.requires.2)
 
-add-d : tie.Need-overflow-add-d invariant-loop decreases-loop
+add-d : tie.Need-overflow_add-d invariant-loop decreases-loop
 add-d c = search rules
 
 loop-less : tie.Need-loop-smaller invariant-loop decreases-loop
@@ -46,8 +46,8 @@ returns : tie.Need-returns invariant-loop decreases-loop
 unfolding given
 returns c = added_all c.before.loop.invariant (omega arith)
 
-pub interval-total-spec : {M : Type 1} → statement M
-interval-total-spec =
+pub interval_total_spec : {M : Type 1} → statement M
+interval_total_spec =
     tie.close
     (tie.spec
     invariant-loop

@@ -17,19 +17,19 @@ decreases-loop shares rooms d from least j₀ j = most_intervals - j
 loop-holds : tie.Need-loop-init invariant-loop decreases-loop
 loop-holds c = (omega arith, omega arith, λ i g h. absurd (let z : ⊥ = omega arith in z))
 
-mul_at : tie.Need-overflow-mul-at invariant-loop decreases-loop
+mul_at : tie.Need-overflow_mul-at invariant-loop decreases-loop
 mul_at c = search rules
 
-add_at : tie.Need-overflow-add-at invariant-loop decreases-loop
+add_at : tie.Need-overflow_add-at invariant-loop decreases-loop
 add_at c = search rules
 
-mul-less : tie.Need-overflow-mul-less invariant-loop decreases-loop
+mul-less : tie.Need-overflow_mul-less invariant-loop decreases-loop
 mul-less c = search rules
 
 shared-slice-read-less : tie.Need-shared-slice-read-smaller invariant-loop decreases-loop
 shared-slice-read-less c = search rules
 
-mul-less-2 : tie.Need-overflow-mul-less-2 invariant-loop decreases-loop
+mul-less-2 : tie.Need-overflow_mul-less-2 invariant-loop decreases-loop
 mul-less-2 c = search rules
 
 shared-slice-read-less-2 : tie.Need-shared-slice-read-smaller-2 invariant-loop decreases-loop
@@ -41,7 +41,7 @@ less-requires c κs = search rules
 returns : tie.Need-returns invariant-loop decreases-loop
 returns c = c.before.before.before.before.before.loop.invariant
 
-add-j : tie.Need-overflow-add-j invariant-loop decreases-loop
+add-j : tie.Need-overflow_add-j invariant-loop decreases-loop
 add-j c = search rules
 
 loop-less : tie.Need-loop-smaller invariant-loop decreases-loop
@@ -55,8 +55,8 @@ loop-again c =
 returns-2 : tie.Need-returns-2 invariant-loop decreases-loop
 returns-2 c = c.before.loop.invariant
 
-pub next-way-spec : {M : Type 1} → statement M
-next-way-spec =
+pub next_way_spec : {M : Type 1} → statement M
+next_way_spec =
     tie.close
     (tie.spec
     invariant-loop

@@ -32,7 +32,7 @@ both-requires c κs = search rules
 array-write-part : tie.Need-array-write-part invariant-loop decreases-loop
 array-write-part c = search rules
 
-add-k : tie.Need-overflow-add-k invariant-loop decreases-loop
+add-k : tie.Need-overflow_add-k invariant-loop decreases-loop
 add-k c = search rules
 
 loop-less : tie.Need-loop-smaller invariant-loop decreases-loop
@@ -47,8 +47,8 @@ returns c =
     let L = c.before.loop in
     marks_both most_doses A.t1 A.t2 L.part (search rules) L.invariant.size (done_all L.invariant (omega arith))
 
-pub dead-part-spec : {M : Type 1} → statement M
-dead-part-spec =
+pub dead_part_spec : {M : Type 1} → statement M
+dead_part_spec =
     tie.close
     (tie.spec
     invariant-loop

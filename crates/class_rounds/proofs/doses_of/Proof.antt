@@ -29,7 +29,7 @@ both-requires c κs = search rules
 array-write-own : tie.Need-array-write-own invariant-loop decreases-loop
 array-write-own c = search rules
 
-add-k : tie.Need-overflow-add-k invariant-loop decreases-loop
+add-k : tie.Need-overflow_add-k invariant-loop decreases-loop
 add-k c = search rules
 
 loop-less : tie.Need-loop-smaller invariant-loop decreases-loop
@@ -41,8 +41,8 @@ loop-again c = done_next c.before.before.loop.invariant (omega arith) c.both.ens
 returns : tie.Need-returns invariant-loop decreases-loop
 returns c = done_all c.before.loop.invariant (omega arith)
 
-pub doses-of-spec : {M : Type 1} → statement M
-doses-of-spec =
+pub doses_of_spec : {M : Type 1} → statement M
+doses_of_spec =
     tie.close
     (tie.spec
     invariant-loop

@@ -19,37 +19,37 @@ decreases-loop lens w reserved holds₀ j₀ holds j = most_intervals - j
 loop-holds : tie.Need-loop-init invariant-loop decreases-loop
 loop-holds c = done_none refl
 
-mul_holds : tie.Need-overflow-mul-holds invariant-loop decreases-loop
+mul_holds : tie.Need-overflow_mul-holds invariant-loop decreases-loop
 mul_holds c = search rules
 
 array-read-holds : tie.Need-array-read-init invariant-loop decreases-loop
 array-read-holds c = search rules
 
-mul-holds-2 : tie.Need-overflow-mul-holds-2 invariant-loop decreases-loop
+mul-holds-2 : tie.Need-overflow_mul-holds-2 invariant-loop decreases-loop
 mul-holds-2 c = search rules
 
 element-copy-out-holds : tie.Need-element-copy-out-init invariant-loop decreases-loop
 element-copy-out-holds c = search rules
 
-mul-holds-3 : tie.Need-overflow-mul-holds-3 invariant-loop decreases-loop
+mul-holds-3 : tie.Need-overflow_mul-holds-3 invariant-loop decreases-loop
 mul-holds-3 c =
     let loop = c.before.before in
     let asked = loop.before.requires in
     omega (arith, mul-le-mul (asked.0 loop.loop.j) asked.2)
 
-mul-holds-4 : tie.Need-overflow-mul-holds-4 invariant-loop decreases-loop
+mul-holds-4 : tie.Need-overflow_mul-holds-4 invariant-loop decreases-loop
 mul-holds-4 c =
     let loop = c.before.before in
     let asked = loop.before.requires in
     omega (arith, mul-le-mul (asked.1 loop.loop.j) (mul-le-mul (asked.0 loop.loop.j) asked.2))
 
-mul-holds-5 : tie.Need-overflow-mul-holds-5 invariant-loop decreases-loop
+mul-holds-5 : tie.Need-overflow_mul-holds-5 invariant-loop decreases-loop
 mul-holds-5 c = search rules
 
 array-write-holds : tie.Need-array-write-init invariant-loop decreases-loop
 array-write-holds c = search rules
 
-add-j : tie.Need-overflow-add-j invariant-loop decreases-loop
+add-j : tie.Need-overflow_add-j invariant-loop decreases-loop
 add-j c = search rules
 
 loop-less : tie.Need-loop-smaller invariant-loop decreases-loop
@@ -61,8 +61,8 @@ loop-again c = done_next c.before.before.loop.invariant (omega arith) refl
 returns : tie.Need-returns invariant-loop decreases-loop
 returns c = done_all c.before.loop.invariant (omega arith)
 
-pub holds-of-spec : {M : Type 1} → statement M
-holds-of-spec =
+pub holds_of_spec : {M : Type 1} → statement M
+holds_of_spec =
     tie.close
     (tie.spec
     invariant-loop

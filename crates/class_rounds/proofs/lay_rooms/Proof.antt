@@ -24,7 +24,7 @@ lay-row-requires c κs =
     let asked = loop.before.requires in
     (loop.loop.invariant.1, asked.1, asked.2, c.before.loop-test.true, loop.loop.invariant.2)
 
-add-k : tie.Need-overflow-add-k invariant-loop decreases-loop
+add-k : tie.Need-overflow_add-k invariant-loop decreases-loop
 add-k c = search rules
 
 loop-less : tie.Need-loop-smaller invariant-loop decreases-loop
@@ -36,7 +36,7 @@ loop-again c = (omega arith, c.lay-row.ensures.0, λ i h. c.lay-row.ensures.1 i 
 returns : tie.Need-returns invariant-loop decreases-loop
 returns c = (c.before.loop.invariant.1, λ i h. c.before.loop.invariant.2 i (omega arith))
 
-pub lay-rooms-spec : {M : Type 1} → statement M
-lay-rooms-spec =
+pub lay_rooms_spec : {M : Type 1} → statement M
+lay_rooms_spec =
     tie.close
     (tie.spec invariant-loop decreases-loop loop-holds lay-row-requires add-k loop-less loop-again returns)

@@ -20,10 +20,10 @@ decreases-loop rooms₀ active lens k w set j₀ rooms j = most_intervals - j
 loop-holds : tie.Need-loop-init invariant-loop decreases-loop
 loop-holds c = (omega arith, c.requires.0, λ i h. c.requires.4 i (omega arith))
 
-mul_at : tie.Need-overflow-mul-at invariant-loop decreases-loop
+mul_at : tie.Need-overflow_mul-at invariant-loop decreases-loop
 mul_at c = search rules
 
-add_at : tie.Need-overflow-add-at invariant-loop decreases-loop
+add_at : tie.Need-overflow_add-at invariant-loop decreases-loop
 add_at c = search rules
 
 array-read-on : tie.Need-array-read-on invariant-loop decreases-loop
@@ -32,13 +32,13 @@ array-read-on c = search rules
 element-copy-out-on : tie.Need-element-copy-out-on invariant-loop decreases-loop
 element-copy-out-on c = search rules
 
-mul-on : tie.Need-overflow-mul-on invariant-loop decreases-loop
+mul-on : tie.Need-overflow_mul-on invariant-loop decreases-loop
 mul-on c = search rules
 
 element-copy-out-on-2 : tie.Need-element-copy-out-on-2 invariant-loop decreases-loop
 element-copy-out-on-2 c = search rules
 
-mul-on-2 : tie.Need-overflow-mul-on-2 invariant-loop decreases-loop
+mul-on-2 : tie.Need-overflow_mul-on-2 invariant-loop decreases-loop
 mul-on-2 c =
     let loop = c.before.before.before in
     let asked = loop.before.requires in
@@ -51,13 +51,13 @@ on-requires c κs = search rules
 on-requires-2 : tie.Need-on-requires-2 invariant-loop decreases-loop
 on-requires-2 c κs = search rules
 
-mul-rooms : tie.Need-overflow-mul-rooms invariant-loop decreases-loop
+mul-rooms : tie.Need-overflow_mul-rooms invariant-loop decreases-loop
 mul-rooms c = search rules
 
 element-write-rooms : tie.Need-element-write-rooms invariant-loop decreases-loop
 element-write-rooms c = search rules
 
-add-j : tie.Need-overflow-add-j invariant-loop decreases-loop
+add-j : tie.Need-overflow_add-j invariant-loop decreases-loop
 add-j c = search rules
 
 loop-less : tie.Need-loop-smaller invariant-loop decreases-loop
@@ -76,8 +76,8 @@ loop-again c =
 returns : tie.Need-returns invariant-loop decreases-loop
 returns c = (c.before.loop.invariant.1, λ i h. c.before.loop.invariant.2 i (omega arith))
 
-pub lay-row-spec : {M : Type 1} → statement M
-lay-row-spec =
+pub lay_row_spec : {M : Type 1} → statement M
+lay_row_spec =
     tie.close
     (tie.spec
     invariant-loop

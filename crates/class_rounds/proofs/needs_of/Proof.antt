@@ -24,7 +24,7 @@ loop-holds c = done_none refl
 array-read-on : tie.Need-array-read-on invariant-loop decreases-loop
 array-read-on c = search rules
 
-mul_wide : tie.Need-overflow-mul-wide invariant-loop decreases-loop
+mul_wide : tie.Need-overflow_mul-wide invariant-loop decreases-loop
 mul_wide c = search rules
 
 element-copy-out-wide : tie.Need-element-copy-out-wide invariant-loop decreases-loop
@@ -34,7 +34,7 @@ wide-requires : tie.Need-wide-requires invariant-loop decreases-loop
 wide-requires c κs = search rules
 
 -- 32 bits of grams
-mul-on : tie.Need-overflow-mul-on invariant-loop decreases-loop
+mul-on : tie.Need-overflow_mul-on invariant-loop decreases-loop
 mul-on c =
     let start = c.before.before.before.before in
     let most : c.wide.result ≤ 4294967295 = omega (arith, c.wide.ensures.1) in
@@ -43,13 +43,13 @@ mul-on c =
 on-requires : tie.Need-on-requires invariant-loop decreases-loop
 on-requires c κs = search rules
 
-mul-needs : tie.Need-overflow-mul-needs invariant-loop decreases-loop
+mul-needs : tie.Need-overflow_mul-needs invariant-loop decreases-loop
 mul-needs c = search rules
 
 array-write-needs : tie.Need-array-write-needs invariant-loop decreases-loop
 array-write-needs c = search rules
 
-add-k : tie.Need-overflow-add-k invariant-loop decreases-loop
+add-k : tie.Need-overflow_add-k invariant-loop decreases-loop
 add-k c = search rules
 
 loop-less : tie.Need-loop-smaller invariant-loop decreases-loop
@@ -65,8 +65,8 @@ loop-again c =
 returns : tie.Need-returns invariant-loop decreases-loop
 returns c = done_all c.before.loop.invariant (omega arith)
 
-pub needs-of-spec : {M : Type 1} → statement M
-needs-of-spec =
+pub needs_of_spec : {M : Type 1} → statement M
+needs_of_spec =
     tie.close
     (tie.spec
     invariant-loop

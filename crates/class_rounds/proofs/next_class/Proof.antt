@@ -79,8 +79,8 @@ loop-again c =
     let round = tried.try-candidate.ensures.2 in
     (search rules, round.onward c.if1.false _ kept.1, none_past _ _ _ round.fewer kept.2)
 
-pub next-class-spec : {M : Type 1} → statement M
-next-class-spec =
+pub next_class_spec : {M : Type 1} → statement M
+next_class_spec =
     tie.close
     (tie.spec
     invariant-loop

@@ -88,8 +88,8 @@ returns c =
           c.dead-part.result _ raised.find-shares.ensures c.before.needs-met.ensures c.dead-part.ensures,
     )
 
-pub try-candidate-spec : {M : Type 1} → statement M
-try-candidate-spec =
+pub try_candidate_spec : {M : Type 1} → statement M
+try_candidate_spec =
     tie.close
     (tie.spec
     weight-of-requires

@@ -18,13 +18,13 @@ decreases-loop x₀ i₀ x i = cells - i
 loop-holds : tie.Need-loop-init invariant-loop decreases-loop
 loop-holds c = (omega arith, c.requires, λ k h. absurd (let z : ⊥ = omega arith in z))
 
-mul-shares : tie.Need-overflow-mul-shares invariant-loop decreases-loop
+mul-shares : tie.Need-overflow_mul-shares invariant-loop decreases-loop
 mul-shares c = search rules
 
 slice-write-shares : tie.Need-slice-write-shares invariant-loop decreases-loop
 slice-write-shares c = search rules
 
-add-i : tie.Need-overflow-add-i invariant-loop decreases-loop
+add-i : tie.Need-overflow_add-i invariant-loop decreases-loop
 add-i c = search rules
 
 loop-less : tie.Need-loop-smaller invariant-loop decreases-loop

@@ -27,7 +27,7 @@ clear-requires c κs = c.before.before.before.before.before.requires.0.shares
 loop-holds : tie.Need-loop-init invariant-loop decreases-loop
 loop-holds c = (omega arith, (search rules), within_none c.before.before.clear.ensures)
 
-mul-d : tie.Need-overflow-mul-d invariant-loop decreases-loop
+mul-d : tie.Need-overflow_mul-d invariant-loop decreases-loop
 mul-d c = search rules
 
 array-read-d : tie.Need-array-read-d invariant-loop decreases-loop
@@ -39,7 +39,7 @@ first-shares-requires c κs =
     let asked = (entry loop).requires in
     (sized_now asked.0 loop.loop.invariant.1, loop.loop.invariant.2, asked.1)
 
-add-i : tie.Need-overflow-add-i invariant-loop decreases-loop
+add-i : tie.Need-overflow_add-i invariant-loop decreases-loop
 add-i c = search rules
 
 loop-less : tie.Need-loop-smaller invariant-loop decreases-loop
@@ -67,8 +67,8 @@ same_length c = omega arith
 returns : tie.Need-returns invariant-loop decreases-loop
 returns c = c.before.before.raise.ensures
 
-pub find-shares-spec : {M : Type 1} → statement M
-find-shares-spec =
+pub find_shares_spec : {M : Type 1} → statement M
+find_shares_spec =
     tie.close
     (tie.spec
     invariant-loop

@@ -7,13 +7,13 @@ use borrow.Author.Rules.{rules}
 use Rattle.class_shares.proofs.first_share.Statement.{statement}
 use Rattle.class_shares.proofs.first_share.Tie as tie
 
-mul_at : tie.Need-overflow-mul-at
+mul_at : tie.Need-overflow_mul-at
 mul_at c = search rules
 
-add_at : tie.Need-overflow-add-at
+add_at : tie.Need-overflow_add-at
 add_at c = search rules
 
-mul-if1 : tie.Need-overflow-mul-if1
+mul-if1 : tie.Need-overflow_mul-if1
 mul-if1 c = search rules
 
 shared-slice-read-if1 : tie.Need-shared-slice-read-if1
@@ -24,7 +24,7 @@ returns c =
     let entry = c.before.before.before.before.before in
     took_none entry.args.d entry.args.miss entry.requires.1
 
-mul_most : tie.Need-overflow-mul-most
+mul_most : tie.Need-overflow_mul-most
 mul_most c = search rules
 
 shared-slice-read-most : tie.Need-shared-slice-read-most
@@ -38,13 +38,13 @@ interval-total-requires c κs =
 less-requires : tie.Need-less-requires
 less-requires c κs = search rules
 
-mul-less : tie.Need-overflow-mul-less
+mul-less : tie.Need-overflow_mul-less
 mul-less c = search rules
 
 shared-slice-read-less : tie.Need-shared-slice-read-smaller
 shared-slice-read-less c = search rules
 
-mul-less-2 : tie.Need-overflow-mul-less-2
+mul-less-2 : tie.Need-overflow_mul-less-2
 mul-less-2 c = search rules
 
 slice-read-less : tie.Need-slice-read-smaller
@@ -59,13 +59,13 @@ smaller-requires c κs = search rules
 smaller-requires-2 : tie.Need-smaller-requires-2
 smaller-requires-2 c κs = search rules
 
-mul-shares : tie.Need-overflow-mul-shares
+mul-shares : tie.Need-overflow_mul-shares
 mul-shares c = search rules
 
 slice-read-shares : tie.Need-slice-read-shares
 slice-read-shares c = search rules
 
-add-shares : tie.Need-overflow-add-shares
+add-shares : tie.Need-overflow_add-shares
 add-shares c =
     let room = c.before.before.before in
     let known = room.before.before in
@@ -79,13 +79,13 @@ add-shares c =
       c.before.smaller2.ensures,
     )
 
-mul-shares-2 : tie.Need-overflow-mul-shares-2
+mul-shares-2 : tie.Need-overflow_mul-shares-2
 mul-shares-2 c = search rules
 
 slice-write-shares : tie.Need-slice-write-shares
 slice-write-shares c = search rules
 
-sub-result : tie.Need-overflow-sub-result
+sub-result : tie.Need-overflow_sub-result
 sub-result c = omega (arith, c.before.smaller2.ensures)
 
 same_length : tie.Need-same-length
@@ -105,8 +105,8 @@ returns-2 c =
     (omega (arith, capped.smaller2.ensures, fits.smaller.ensures, room.less2.ensures))
     (omega (arith, capped.smaller2.ensures, fits.smaller.ensures, spare.less.ensures, total.interval-total.ensures))
 
-pub first-share-spec : {M : Type 1} → statement M
-first-share-spec =
+pub first_share_spec : {M : Type 1} → statement M
+first_share_spec =
     tie.close
     (tie.spec
     mul_at

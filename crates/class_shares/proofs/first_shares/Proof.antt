@@ -17,7 +17,7 @@ decreases-loop shares₀ rooms holds rules d need miss₀ j₀ shares miss j = m
 returns : tie.Need-returns invariant-loop decreases-loop
 returns c = c.before.before.before.before.before.requires.1
 
-mul-need : tie.Need-overflow-mul-need invariant-loop decreases-loop
+mul-need : tie.Need-overflow_mul-need invariant-loop decreases-loop
 mul-need c = search rules
 
 shared-slice-read-need : tie.Need-shared-slice-read-need invariant-loop decreases-loop
@@ -28,7 +28,7 @@ dose-total-requires c κs =
     let asked = c.before.before.before.before.before.before.before.requires in
     (asked.0.shares, omega arith, asked.1.needed _ (omega arith))
 
-sub-miss : tie.Need-overflow-sub-miss invariant-loop decreases-loop
+sub-miss : tie.Need-overflow_sub-miss invariant-loop decreases-loop
 sub-miss c =
     let entry = c.before.before.before.before.before.before.before.before in
     omega (arith, c.dose_total_lem.ensures, entry.requires.1.needed entry.args.d (omega arith))
@@ -55,7 +55,7 @@ first-share-requires c κs =
     let entry = loop.before.before.before.before.before.before.before.before.before in
     (sized_now entry.requires.0 loop.loop.invariant.shares, loop.loop.invariant.within.bounded, omega arith, c.before.before.loop-test.true)
 
-add-j : tie.Need-overflow-add-j invariant-loop decreases-loop
+add-j : tie.Need-overflow_add-j invariant-loop decreases-loop
 add-j c = search rules
 
 loop-less : tie.Need-loop-smaller invariant-loop decreases-loop
@@ -73,8 +73,8 @@ same-length-2 c = omega arith
 returns-3 : tie.Need-returns-3 invariant-loop decreases-loop
 returns-3 c = c.before.loop.invariant.within
 
-pub first-shares-spec : {M : Type 1} → statement M
-first-shares-spec =
+pub first_shares_spec : {M : Type 1} → statement M
+first_shares_spec =
     tie.close
     (tie.spec
     invariant-loop

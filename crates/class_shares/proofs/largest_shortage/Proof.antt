@@ -14,7 +14,7 @@ decreases-loop shares rules most₀ k₀ most k = most_doses - k
 loop-holds : tie.Need-loop-init invariant-loop decreases-loop
 loop-holds c = search rules
 
-mul-need : tie.Need-overflow-mul-need invariant-loop decreases-loop
+mul-need : tie.Need-overflow_mul-need invariant-loop decreases-loop
 mul-need c = search rules
 
 shared-slice-read-need : tie.Need-shared-slice-read-need invariant-loop decreases-loop
@@ -32,7 +32,7 @@ less-requires c κs = search rules
 larger-requires : tie.Need-larger-requires invariant-loop decreases-loop
 larger-requires c κs = search rules
 
-add-k : tie.Need-overflow-add-k invariant-loop decreases-loop
+add-k : tie.Need-overflow_add-k invariant-loop decreases-loop
 add-k c = search rules
 
 loop-less : tie.Need-loop-smaller invariant-loop decreases-loop
@@ -44,8 +44,8 @@ loop-again c = search rules
 returns : tie.Need-returns invariant-loop decreases-loop
 returns c = search rules
 
-pub largest-shortage-spec : {M : Type 1} → statement M
-largest-shortage-spec =
+pub largest_shortage_spec : {M : Type 1} → statement M
+largest_shortage_spec =
     tie.close
     (tie.spec
     invariant-loop

@@ -20,7 +20,7 @@ decreases-loop x rules k₀ k = most_doses - k
 loop-holds : tie.Need-loop-init invariant-loop decreases-loop
 loop-holds c = (omega arith, λ i h. absurd (let z : ⊥ = omega arith in z))
 
-mul-need : tie.Need-overflow-mul-need invariant-loop decreases-loop
+mul-need : tie.Need-overflow_mul-need invariant-loop decreases-loop
 mul-need c = search rules
 
 shared-slice-read-need : tie.Need-shared-slice-read-need invariant-loop decreases-loop
@@ -38,7 +38,7 @@ returns c =
     let test = c.before.before.before in
     record { all = λ e. absurd (not_both e refl); some = λ e. (test.before.loop.k, test.loop-test.true, omega (arith, c.before.dose_total_lem.ensures, c.if1.true)) }
 
-add-k : tie.Need-overflow-add-k invariant-loop decreases-loop
+add-k : tie.Need-overflow_add-k invariant-loop decreases-loop
 add-k c = search rules
 
 loop-less : tie.Need-loop-smaller invariant-loop decreases-loop
@@ -54,8 +54,8 @@ loop-again c =
 returns-2 : tie.Need-returns-2 invariant-loop decreases-loop
 returns-2 c = record { all = λ e k h. c.before.loop.invariant.1 k (omega arith); some = λ e. absurd (not_both refl e) }
 
-pub needs-met-spec : {M : Type 1} → statement M
-needs-met-spec =
+pub needs_met_spec : {M : Type 1} → statement M
+needs_met_spec =
     tie.close
     (tie.spec
     invariant-loop

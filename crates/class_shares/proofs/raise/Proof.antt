@@ -22,10 +22,10 @@ loop-holds c =
     let asked = passed.before.before.before.before.before.before.requires in
     record { shares = search rules; some = asked.3; fallen = omega arith; raised = passed.raise-pass.ensures }
 
-sub-least : tie.Need-overflow-sub-least invariant-loop decreases-loop
+sub-least : tie.Need-overflow_sub-least invariant-loop decreases-loop
 sub-least c = search rules
 
-add-least : tie.Need-overflow-add-least invariant-loop decreases-loop
+add-least : tie.Need-overflow_add-least invariant-loop decreases-loop
 add-least c = search rules
 
 raise-pass-requires-2 : tie.Need-raise-pass-requires-2 invariant-loop decreases-loop
@@ -46,8 +46,8 @@ same_length c = omega arith
 returns : tie.Need-returns invariant-loop decreases-loop
 returns c = let e : c.before.loop.least ≡ 1 = omega arith in rw e at c.before.loop.invariant.raised
 
-pub raise-spec : {M : Type 1} → statement M
-raise-spec =
+pub raise_spec : {M : Type 1} → statement M
+raise_spec =
     tie.close
     (tie.spec
     invariant-loop

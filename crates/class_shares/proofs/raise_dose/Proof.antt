@@ -30,7 +30,7 @@ dose-total-requires c κs =
     let entry = loop.before.before.before.before.before in
     (loop.loop.invariant.shares, entry.requires.2, loop.loop.invariant.own)
 
-sub-miss : tie.Need-overflow-sub-miss invariant-loop decreases-loop
+sub-miss : tie.Need-overflow_sub-miss invariant-loop decreases-loop
 sub-miss c = omega (arith, c.dose_total_lem.ensures, c.before.before.loop.invariant.own)
 
 same_length : tie.Need-same-length invariant-loop decreases-loop
@@ -68,8 +68,8 @@ loop-again c =
     let total = called.before.before.before in
     rising_more total.before.before.loop.invariant (omega (arith, total.dose_total_lem.ensures)) called.from-dose.ensures (search rules)
 
-pub raise-dose-spec : {M : Type 1} → statement M
-raise-dose-spec =
+pub raise_dose_spec : {M : Type 1} → statement M
+raise_dose_spec =
     tie.close
     (tie.spec
     invariant-loop

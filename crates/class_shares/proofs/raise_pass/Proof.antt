@@ -22,7 +22,7 @@ loop-holds c =
     let asked = c.before.before.before.before.requires in
     (omega arith, asked.0.shares, raised_none _ (all_false most_marks) asked.1)
 
-mul-need : tie.Need-overflow-mul-need invariant-loop decreases-loop
+mul-need : tie.Need-overflow_mul-need invariant-loop decreases-loop
 mul-need c = search rules
 
 shared-slice-read-need : tie.Need-shared-slice-read-need invariant-loop decreases-loop
@@ -36,7 +36,7 @@ raise-dose-requires c κs =
     let within = loop.loop.invariant.2.within in
     (sized_now asked.0 loop.loop.invariant.1, within.bounded, test.loop-test.true, asked.3, within.needed loop.loop.d test.loop-test.true)
 
-add-d : tie.Need-overflow-add-d invariant-loop decreases-loop
+add-d : tie.Need-overflow_add-d invariant-loop decreases-loop
 add-d c = search rules
 
 loop-less : tie.Need-loop-smaller invariant-loop decreases-loop
@@ -55,8 +55,8 @@ same_length c = omega arith
 returns : tie.Need-returns invariant-loop decreases-loop
 returns c = let e : c.before.loop.d ≡ most_doses = omega arith in rw e at c.before.loop.invariant.2
 
-pub raise-pass-spec : {M : Type 1} → statement M
-raise-pass-spec =
+pub raise_pass_spec : {M : Type 1} → statement M
+raise_pass_spec =
     tie.close
     (tie.spec
     invariant-loop

@@ -27,7 +27,7 @@ grams-in-requires c κs = let start = c.before.before.before.before.before.befor
 by-deadline-requires : tie.Need-by-deadline-requires
 by-deadline-requires c κs = let start = c.before.before.before.before.before.before.before.before in few_doses start.args.o start.requires
 
-cast-phases : tie.Need-overflow-cast-phases
+cast-phases : tie.Need-overflow_cast-phases
 cast-phases c = search rules
 
 phases-requires : tie.Need-phases-requires
@@ -57,8 +57,8 @@ returns c =
     of_order (as_order entry.args.o) entry.requires _ _ active.active-in-order.result lens.lens-in.result grams.grams-in.result read _ (fans_is entry.args.o) _ _ _
     c.phases.ensures.0 c.phases.ensures.1
 
-pub classes-of-spec : {M : Type 1} → statement M
-classes-of-spec =
+pub classes_of_spec : {M : Type 1} → statement M
+classes_of_spec =
     tie.close
     (tie.spec
     instants-of-requires

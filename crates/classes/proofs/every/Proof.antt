@@ -22,7 +22,7 @@ loop-holds c = done_none refl
 array-write-all : tie.Need-array-write-all invariant-loop decreases-loop
 array-write-all c = search rules
 
-add-k : tie.Need-overflow-add-k invariant-loop decreases-loop
+add-k : tie.Need-overflow_add-k invariant-loop decreases-loop
 add-k c = search rules
 
 loop-less : tie.Need-loop-smaller invariant-loop decreases-loop
@@ -34,5 +34,5 @@ loop-again c = done_next c.before.loop.invariant (omega arith) refl
 returns : tie.Need-returns invariant-loop decreases-loop
 returns c = done_all c.before.loop.invariant (omega arith)
 
-pub every-spec : {M : Type 1} → statement M
-every-spec = tie.close (tie.spec invariant-loop decreases-loop loop-holds array-write-all add-k loop-less loop-again returns)
+pub every_spec : {M : Type 1} → statement M
+every_spec = tie.close (tie.spec invariant-loop decreases-loop loop-holds array-write-all add-k loop-less loop-again returns)

@@ -24,13 +24,13 @@ loop-holds c = (done_none c.before.before.requires.0, λ m h. refl)
 array-read-choose-share : tie.Need-array-read-choose-share invariant-loop decreases-loop
 array-read-choose-share c = search rules
 
-mul-choose-share : tie.Need-overflow-mul-choose-share invariant-loop decreases-loop
+mul-choose-share : tie.Need-overflow_mul-choose-share invariant-loop decreases-loop
 mul-choose-share c = search rules
 
 shared-slice-read-choose-share : tie.Need-shared-slice-read-choose-share invariant-loop decreases-loop
 shared-slice-read-choose-share c = search rules
 
-mul-choose-share-2 : tie.Need-overflow-mul-choose-share-2 invariant-loop decreases-loop
+mul-choose-share-2 : tie.Need-overflow_mul-choose-share-2 invariant-loop decreases-loop
 mul-choose-share-2 c = search rules
 
 slice-read-choose-share : tie.Need-slice-read-choose-share invariant-loop decreases-loop
@@ -39,13 +39,13 @@ slice-read-choose-share c = search rules
 choose-share-requires : tie.Need-choose-share-requires invariant-loop decreases-loop
 choose-share-requires c κs = search rules
 
-mul-shares : tie.Need-overflow-mul-shares invariant-loop decreases-loop
+mul-shares : tie.Need-overflow_mul-shares invariant-loop decreases-loop
 mul-shares c = search rules
 
 slice-write-shares : tie.Need-slice-write-shares invariant-loop decreases-loop
 slice-write-shares c = search rules
 
-add-i : tie.Need-overflow-add-i invariant-loop decreases-loop
+add-i : tie.Need-overflow_add-i invariant-loop decreases-loop
 add-i c = search rules
 
 loop-less : tie.Need-loop-smaller invariant-loop decreases-loop
@@ -66,8 +66,8 @@ same_length c = search rules
 returns : tie.Need-returns invariant-loop decreases-loop
 returns c = done_all c.before.loop.invariant.0 (omega arith)
 
-pub keep-shares-spec : {M : Type 1} → statement M
-keep-shares-spec =
+pub keep_shares_spec : {M : Type 1} → statement M
+keep_shares_spec =
     tie.close
     (tie.spec
     invariant-loop

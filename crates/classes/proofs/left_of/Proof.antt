@@ -31,7 +31,7 @@ without-requires c κs = search rules
 array-write-left : tie.Need-array-write-left invariant-loop decreases-loop
 array-write-left c = search rules
 
-add-k : tie.Need-overflow-add-k invariant-loop decreases-loop
+add-k : tie.Need-overflow_add-k invariant-loop decreases-loop
 add-k c = search rules
 
 loop-less : tie.Need-loop-smaller invariant-loop decreases-loop
@@ -43,8 +43,8 @@ loop-again c = done_next c.before.before.loop.invariant (omega arith) c.without.
 returns : tie.Need-returns invariant-loop decreases-loop
 returns c = done_all c.before.loop.invariant (omega arith)
 
-pub left-of-spec : {M : Type 1} → statement M
-left-of-spec =
+pub left_of_spec : {M : Type 1} → statement M
+left_of_spec =
     tie.close
     (tie.spec
     invariant-loop

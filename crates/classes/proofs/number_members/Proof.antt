@@ -23,7 +23,7 @@ loop-holds c = done_none refl
 array-read-choose-number : tie.Need-array-read-choose-number invariant-loop decreases-loop
 array-read-choose-number c = search rules
 
-mul-choose-number : tie.Need-overflow-mul-choose-number invariant-loop decreases-loop
+mul-choose-number : tie.Need-overflow_mul-choose-number invariant-loop decreases-loop
 mul-choose-number c = search rules
 
 array-read-choose-number-2 : tie.Need-array-read-choose-number-2 invariant-loop decreases-loop
@@ -32,13 +32,13 @@ array-read-choose-number-2 c = search rules
 choose-number-requires : tie.Need-choose-number-requires invariant-loop decreases-loop
 choose-number-requires c κs = search rules
 
-mul-numbers : tie.Need-overflow-mul-numbers invariant-loop decreases-loop
+mul-numbers : tie.Need-overflow_mul-numbers invariant-loop decreases-loop
 mul-numbers c = search rules
 
 array-write-numbers : tie.Need-array-write-numbers invariant-loop decreases-loop
 array-write-numbers c = search rules
 
-add-k : tie.Need-overflow-add-k invariant-loop decreases-loop
+add-k : tie.Need-overflow_add-k invariant-loop decreases-loop
 add-k c = search rules
 
 loop-less : tie.Need-loop-smaller invariant-loop decreases-loop
@@ -50,8 +50,8 @@ loop-again c = done_next c.before.before.loop.invariant (omega arith) c.choose-n
 returns : tie.Need-returns invariant-loop decreases-loop
 returns c = done_all c.before.loop.invariant (omega arith)
 
-pub number-members-spec : {M : Type 1} → statement M
-number-members-spec =
+pub number_members_spec : {M : Type 1} → statement M
+number_members_spec =
     tie.close
     (tie.spec
     invariant-loop

@@ -56,8 +56,8 @@ returns c =
       omega (arith, after.ensures.classed, some_size A.doses (set_of next.result.members) next.ensures.chosen.next.some),
     )
 
-pub phase-spec : {M : Type 1} → statement M
-phase-spec =
+pub phase_spec : {M : Type 1} → statement M
+phase_spec =
     tie.close
     (tie.spec
     free-fans-requires

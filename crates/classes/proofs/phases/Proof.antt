@@ -54,8 +54,8 @@ same_length c = search rules
 returns : tie.Need-returns invariant-loop decreases-loop
 returns c = (c.before.before.loop.invariant.2, omega (arith, c.if1.false, c.before.before.loop.invariant.1))
 
-pub phases-spec : {M : Type 1} → statement M
-phases-spec =
+pub phases_spec : {M : Type 1} → statement M
+phases_spec =
     tie.close
     (tie.spec
     invariant-loop

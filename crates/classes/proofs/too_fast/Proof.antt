@@ -29,12 +29,12 @@ element-copy-out-p c = search rules
 some : (c : tie.After-p) → 0 < c.before.before.before.args.t2.class
 some c = omega (arith, c.before.before.if1.false)
 
-cast-excess : tie.Need-overflow-cast-excess
+cast-excess : tie.Need-overflow_cast-excess
 cast-excess c =
     let asked = c.before.before.before.requires in
     omega (arith, weight_fit asked.0 asked.1 (some c))
 
-cast-excess-2 : tie.Need-overflow-cast-excess-2
+cast-excess-2 : tie.Need-overflow_cast-excess-2
 cast-excess-2 c =
     let asked = c.before.before.before.requires in
     omega (arith, time_fit asked.0 asked.1 (some c))
@@ -69,8 +69,8 @@ returns-3 c =
     too_fast_above entry.requires.0 entry.requires.1 (some compared.before) c.first-set.result number
     (omega (arith, c.before.before.if2.false, compared.excess.ensures))
 
-pub too-fast-spec : {M : Type 1} → statement M
-too-fast-spec =
+pub too_fast_spec : {M : Type 1} → statement M
+too_fast_spec =
     tie.close
     (tie.spec
     not-above-requires

@@ -24,7 +24,7 @@ wrapping-add-u64-requires c κs = search rules
 wrapping-add-u64-requires-2 : tie.Need-wrapping-add-u64-requires-2 invariant-loop decreases-loop
 wrapping-add-u64-requires-2 c κs = search rules
 
-add-k : tie.Need-overflow-add-k invariant-loop decreases-loop
+add-k : tie.Need-overflow_add-k invariant-loop decreases-loop
 add-k c = search rules
 
 loop-less : tie.Need-loop-smaller invariant-loop decreases-loop
@@ -36,8 +36,8 @@ loop-again c = search rules
 returns : tie.Need-returns invariant-loop decreases-loop
 returns c = search rules
 
-pub class-set-spec : {M : Type 1} → statement M
-class-set-spec =
+pub class_set_spec : {M : Type 1} → statement M
+class_set_spec =
     tie.close
     (tie.spec
     invariant-loop

@@ -25,7 +25,7 @@ on-requires c κs = search rules
 wrapping-add-u64-requires : tie.Need-wrapping-add-u64-requires invariant-loop decreases-loop
 wrapping-add-u64-requires c κs = search rules
 
-add-k : tie.Need-overflow-add-k invariant-loop decreases-loop
+add-k : tie.Need-overflow_add-k invariant-loop decreases-loop
 add-k c = search rules
 
 loop-less : tie.Need-loop-smaller invariant-loop decreases-loop
@@ -37,8 +37,8 @@ loop-again c = search rules
 returns : tie.Need-returns invariant-loop decreases-loop
 returns c = search rules
 
-pub class-share-spec : {M : Type 1} → statement M
-class-share-spec =
+pub class_share_spec : {M : Type 1} → statement M
+class_share_spec =
     tie.close
     (tie.spec
     invariant-loop

@@ -19,7 +19,7 @@ full-requires c κs = search rules
 returns : tie.Need-returns invariant-loop decreases-loop
 returns c = search rules
 
-add_at : tie.Need-overflow-add-at invariant-loop decreases-loop
+add_at : tie.Need-overflow_add-at invariant-loop decreases-loop
 add_at c = search rules
 
 loop-less : tie.Need-loop-smaller invariant-loop decreases-loop
@@ -31,8 +31,8 @@ loop-again c = search rules
 returns-2 : tie.Need-returns-2 invariant-loop decreases-loop
 returns-2 c = search rules
 
-pub classes-full-spec : {M : Type 1} → statement M
-classes-full-spec =
+pub classes_full_spec : {M : Type 1} → statement M
+classes_full_spec =
     tie.close
     (tie.spec
     invariant-loop

@@ -34,7 +34,7 @@ returns-2 c = search rules
 wrapping-add-u64-requires : tie.Need-wrapping-add-u64-requires invariant-loop decreases-loop
 wrapping-add-u64-requires c κs = search rules
 
-add-j : tie.Need-overflow-add-j invariant-loop decreases-loop
+add-j : tie.Need-overflow_add-j invariant-loop decreases-loop
 add-j c = search rules
 
 loop-less : tie.Need-loop-smaller invariant-loop decreases-loop
@@ -49,8 +49,8 @@ units-of-requires c κs = search rules
 returns-3 : tie.Need-returns-3 invariant-loop decreases-loop
 returns-3 c = search rules
 
-pub dose-served-spec : {M : Type 1} → statement M
-dose-served-spec =
+pub dose_served_spec : {M : Type 1} → statement M
+dose_served_spec =
     tie.close
     (tie.spec
     invariant-loop

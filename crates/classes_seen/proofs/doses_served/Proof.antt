@@ -18,7 +18,7 @@ dose-served-requires c κs = search rules
 returns : tie.Need-returns invariant-loop decreases-loop
 returns c = search rules
 
-add-k : tie.Need-overflow-add-k invariant-loop decreases-loop
+add-k : tie.Need-overflow_add-k invariant-loop decreases-loop
 add-k c = search rules
 
 loop-less : tie.Need-loop-smaller invariant-loop decreases-loop
@@ -30,8 +30,8 @@ loop-again c = search rules
 returns-2 : tie.Need-returns-2 invariant-loop decreases-loop
 returns-2 c = search rules
 
-pub doses-served-spec : {M : Type 1} → statement M
-doses-served-spec =
+pub doses_served_spec : {M : Type 1} → statement M
+doses_served_spec =
     tie.close
     (tie.spec
     invariant-loop

@@ -26,8 +26,8 @@ show-order-requires c κs = read_fits _ _ _ (was_read _ _ c.before.before.before
 returns-2 : tie.Need-returns-2
 returns-2 c = search rules
 
-pub show-spec : {M : Type 1} → statement M
-show-spec =
+pub show_spec : {M : Type 1} → statement M
+show_spec =
     tie.close
     (tie.spec
     read-order-requires

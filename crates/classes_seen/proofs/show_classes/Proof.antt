@@ -15,7 +15,7 @@ loop-holds c = search rules
 show-class-requires : tie.Need-show-class-requires invariant-loop decreases-loop
 show-class-requires c κs = search rules
 
-add-i : tie.Need-overflow-add-i invariant-loop decreases-loop
+add-i : tie.Need-overflow_add-i invariant-loop decreases-loop
 add-i c = search rules
 
 loop-less : tie.Need-loop-smaller invariant-loop decreases-loop
@@ -27,7 +27,7 @@ loop-again c = search rules
 returns : tie.Need-returns invariant-loop decreases-loop
 returns c = search rules
 
-pub show-classes-spec : {M : Type 1} → statement M
-show-classes-spec =
+pub show_classes_spec : {M : Type 1} → statement M
+show_classes_spec =
     tie.close
     (tie.spec invariant-loop decreases-loop loop-holds show-class-requires add-i loop-less loop-again returns)

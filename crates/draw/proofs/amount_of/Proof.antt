@@ -18,7 +18,7 @@ div-result c =
     let start = c.before.before.before in
     omega (arith, c.wide.ensures.0, start.requires.1, has_time _ _ start.requires.0)
 
-cast-result : tie.Need-overflow-cast-result
+cast-result : tie.Need-overflow_cast-result
 cast-result c =
     let start = c.before.before.before in
     rw (c.wide.ensures.0 ∙ start.requires.1, c.before.units-before.ensures) (amount_fits _ _ start.requires.0 _)
@@ -29,6 +29,6 @@ returns c =
     let start = c.before.before.before in
     rw (c.wide.ensures.0 ∙ start.requires.1, c.before.units-before.ensures) (refl, amount_most _ _ start.requires.0 _)
 
-pub amount-of-spec : {M : Type 1} → statement M
-amount-of-spec =
+pub amount_of_spec : {M : Type 1} → statement M
+amount_of_spec =
     tie.close (tie.spec units-before-requires wide-requires div-result cast-result returns)

@@ -33,6 +33,6 @@ returns-3 c =
     rw started.starts.ensures
     (earlier_here (as_slot started.before.args.s) found.later.given.1 (omega (arith, c.if1.false, started.starts.ensures)))
 
-pub earlier-spec : {M : Type 1} → statement M
-earlier-spec =
+pub earlier_spec : {M : Type 1} → statement M
+earlier_spec =
     tie.close (tie.spec starts-requires enum-known-later enum_told returns returns-2 returns-3)

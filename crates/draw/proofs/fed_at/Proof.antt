@@ -23,7 +23,7 @@ loop-holds c =
     let counted = c.record-count.ensures in
     (omega (arith, counted), fed_none _ _ _ _ _ (omega (arith, counted)))
 
-sub-k : tie.Need-overflow-sub-k invariant-loop decreases-loop
+sub-k : tie.Need-overflow_sub-k invariant-loop decreases-loop
 sub-k c = omega arith
 
 fed-from-requires : tie.Need-fed-from-requires invariant-loop decreases-loop
@@ -45,8 +45,8 @@ returns c =
     let turn = c.before.before in
     c.state-by.ensures ∙ fed_all turn.before.before.before.requires _ _ (omega arith) turn.loop.invariant.1
 
-pub fed-at-spec : {M : Type 1} → statement M
-fed-at-spec =
+pub fed_at_spec : {M : Type 1} → statement M
+fed_at_spec =
     tie.close
     (tie.spec
     invariant-loop

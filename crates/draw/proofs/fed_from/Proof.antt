@@ -44,8 +44,8 @@ returns-3 c =
     rw (← was_on own.before.own-slot.ensures own.if1.false, ← was_on fed feeding-one.if2.false)
     (c.earlier.ensures ∙ ap (λ (s : Slot). earlier_kept s A.later) slot)
 
-pub fed-from-spec : {M : Type 1} → statement M
-fed-from-spec =
+pub fed_from_spec : {M : Type 1} → statement M
+fed_from_spec =
     tie.close
     (tie.spec
     own-slot-requires

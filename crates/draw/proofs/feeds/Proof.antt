@@ -29,7 +29,7 @@ returns c =
     c.both.ensures
     ∙ feeds_by (as_slot A.s) A.tick second.product.ensures started.before.moment.ensures started.starts.ensures c.before.ends.ensures
 
-pub feeds-spec : {M : Type 1} → statement M
-feeds-spec =
+pub feeds_spec : {M : Type 1} → statement M
+feeds_spec =
     tie.close
     (tie.spec product-requires moment-requires starts-requires ends-requires both-requires returns)

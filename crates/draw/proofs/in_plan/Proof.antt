@@ -48,8 +48,8 @@ returns-3 c =
     let A = start.args in
     draws_point start.requires reading.read_order_lem.ensures A.dose A.tick _ c.point-of.ensures dosed.if1.false timely.if2.false
 
-pub in-plan-spec : {M : Type 1} → statement M
-in-plan-spec =
+pub in_plan_spec : {M : Type 1} → statement M
+in_plan_spec =
     tie.close
     (tie.spec
     read-order-requires

@@ -24,5 +24,5 @@ returns-2 c =
     let A = next.before.before.before.args in
     (moves_by A.tick next.next-tick.ensures drawing.point_at.ensures).1 c.if1.false
 
-pub move-on-spec : {M : Type 1} → statement M
-move-on-spec = tie.close (tie.spec next-tick-requires point-at-requires returns returns-2)
+pub move_on_spec : {M : Type 1} → statement M
+move_on_spec = tie.close (tie.spec next-tick-requires point-at-requires returns returns-2)

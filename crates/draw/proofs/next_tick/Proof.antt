@@ -3,17 +3,17 @@ use native.Mathlib.Omega.{arith}
 use Rattle.draw.proofs.next_tick.Statement.{statement}
 use Rattle.draw.proofs.next_tick.Tie as tie
 
-add-result : tie.Need-overflow-add-result
+add-result : tie.Need-overflow_add-result
 add-result c = omega arith
 
 returns : tie.Need-returns
 returns c = omega arith
 
-add-result-2 : tie.Need-overflow-add-result-2
+add-result-2 : tie.Need-overflow_add-result-2
 add-result-2 c = omega arith
 
 returns-2 : tie.Need-returns-2
 returns-2 c = omega arith
 
-pub next-tick-spec : {M : Type 1} → statement M
-next-tick-spec = tie.close (tie.spec add-result returns add-result-2 returns-2)
+pub next_tick_spec : {M : Type 1} → statement M
+next_tick_spec = tie.close (tie.spec add-result returns add-result-2 returns-2)

@@ -8,5 +8,5 @@ returns : tie.Need-returns
 unfolding as_state
 returns c = refl
 
-pub no-point-spec : {M : Type 1} → statement M
-no-point-spec = tie.close (tie.spec returns)
+pub no_point_spec : {M : Type 1} → statement M
+no_point_spec = tie.close (tie.spec returns)

@@ -12,7 +12,7 @@ use Rattle.draw.proofs.own_slot.Tie as tie
 slot-at-requires : tie.Need-slot-at-requires
 slot-at-requires c κs = search rules
 
-cast-if1 : tie.Need-overflow-cast-if1
+cast-if1 : tie.Need-overflow_cast-if1
 cast-if1 c = search rules
 
 returns : tie.Need-returns
@@ -31,5 +31,5 @@ returns-2 c =
     let dose = ap (λ (s : Slot). s.dose) other.before.before.slot_at.ensures in
     rw (c.kind_at.ensures, eq-eqb _ _ (other.if1.false ∙ dose), and-true)
 
-pub own-slot-spec : {M : Type 1} → statement M
-own-slot-spec = tie.close (tie.spec slot-at-requires cast-if1 returns kind-at-requires returns-2)
+pub own_slot_spec : {M : Type 1} → statement M
+own_slot_spec = tie.close (tie.spec slot-at-requires cast-if1 returns kind-at-requires returns-2)

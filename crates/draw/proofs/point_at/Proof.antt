@@ -30,6 +30,6 @@ in-plan-requires c κs =
 returns-2 : tie.Need-returns-2
 returns-2 c = search rules
 
-pub point-at-spec : {M : Type 1} → statement M
-point-at-spec =
+pub point_at_spec : {M : Type 1} → statement M
+point_at_spec =
     tie.close (tie.spec judge-requires without-point-requires returns in-plan-requires returns-2)

@@ -15,5 +15,5 @@ state-of-requires c κs = search rules
 returns : tie.Need-returns
 returns c = rw (c.before.amount-of.ensures.0, c.state-of.ensures)
 
-pub point-of-spec : {M : Type 1} → statement M
-point-of-spec = tie.close (tie.spec time-of-requires amount-of-requires state-of-requires returns)
+pub point_of_spec : {M : Type 1} → statement M
+point_of_spec = tie.close (tie.spec time-of-requires amount-of-requires state-of-requires returns)

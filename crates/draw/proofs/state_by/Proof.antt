@@ -19,5 +19,5 @@ returns-2 : tie.Need-returns-2
 unfolding as_state
 returns-2 c = state_fed c.before.kept.given.1
 
-pub state-by-spec : {M : Type 1} → statement M
-state-by-spec = tie.close (tie.spec enum_told enum-known-kept returns returns-2)
+pub state_by_spec : {M : Type 1} → statement M
+state_by_spec = tie.close (tie.spec enum_told enum-known-kept returns returns-2)

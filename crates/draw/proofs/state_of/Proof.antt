@@ -7,7 +7,7 @@ use borrow.Author.Rules.{rules}
 use Rattle.draw.proofs.state_of.Statement.{statement}
 use Rattle.draw.proofs.state_of.Tie as tie
 
-mul-deadline : tie.Need-overflow-mul-deadline
+mul-deadline : tie.Need-overflow_mul-deadline
 mul-deadline c = search rules
 
 element-copy-out-deadline : tie.Need-element-copy-out-deadline
@@ -19,7 +19,7 @@ returns c =
     let A = c.before.before.before.args in
     state_finished A.t1 _ A.dose A.tick (omega arith) c.if1.true
 
-mul-release : tie.Need-overflow-mul-release
+mul-release : tie.Need-overflow_mul-release
 mul-release c = search rules
 
 element-copy-out-release : tie.Need-element-copy-out-release
@@ -42,8 +42,8 @@ returns-3 c =
     let A = unfinished.before.before.before.args in
     c.fed-at.ensures ∙ state_open A.t1 _ A.dose A.tick (omega arith) unfinished.if1.false released.if2.false
 
-pub state-of-spec : {M : Type 1} → statement M
-state-of-spec =
+pub state_of_spec : {M : Type 1} → statement M
+state_of_spec =
     tie.close
     (tie.spec
     mul-deadline

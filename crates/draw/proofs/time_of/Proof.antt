@@ -37,7 +37,7 @@ returns c =
     ap (λ (s : Slot). s.time) c.slot_at.ensures
     ∙ time_found start.requires _ _ turn.loop.invariant.2 (omega arith) (sym own.if1.true ∙ own.before.own-slot.ensures)
 
-add-k : tie.Need-overflow-add-k invariant-loop decreases-loop
+add-k : tie.Need-overflow_add-k invariant-loop decreases-loop
 add-k c = omega arith
 
 loop-less : tie.Need-loop-smaller invariant-loop decreases-loop
@@ -58,8 +58,8 @@ returns-2 c =
     let start = turn.before.before.before in
     time_end start.requires _ _ turn.loop.invariant.2 (omega arith)
 
-pub time-of-spec : {M : Type 1} → statement M
-time-of-spec =
+pub time_of_spec : {M : Type 1} → statement M
+time_of_spec =
     tie.close
     (tie.spec
     invariant-loop

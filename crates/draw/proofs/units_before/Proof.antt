@@ -29,7 +29,7 @@ units-with-requires c κs =
     let start = turn.before.before.before in
     (omega arith, units_fit start.requires start.args.tick _ _ turn.loop.sum turn.loop.invariant.2 (omega arith))
 
-add-k : tie.Need-overflow-add-k invariant-loop decreases-loop
+add-k : tie.Need-overflow_add-k invariant-loop decreases-loop
 add-k c = omega arith
 
 loop-less : tie.Need-loop-smaller invariant-loop decreases-loop
@@ -50,8 +50,8 @@ returns c =
     let start = turn.before.before.before in
     units_end start.requires _ _ _ turn.loop.sum turn.loop.invariant.2 (omega arith)
 
-pub units-before-spec : {M : Type 1} → statement M
-units-before-spec =
+pub units_before_spec : {M : Type 1} → statement M
+units_before_spec =
     tie.close
     (tie.spec
     invariant-loop

@@ -23,8 +23,8 @@ returns : tie.Need-returns
 unfolding slot_units
 returns c = rw (c.less.ensures, c.before.before.smaller.ensures, c.before.before.before.product.ensures, c.before.before.before.before.ends.ensures, c.before.starts.ensures)
 
-pub units-in-spec : {M : Type 1} → statement M
-units-in-spec =
+pub units_in_spec : {M : Type 1} → statement M
+units_in_spec =
     tie.close
     (tie.spec
     ends-requires

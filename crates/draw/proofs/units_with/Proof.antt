@@ -31,13 +31,13 @@ added c =
     let tick = own.before.before.before.args.tick in
     rw (← was_on own.before.own-slot.ensures own.if1.false) (c.Units-in.ensures ∙ ap (λ (s : Slot). slot_units s tick) c.before.slot_at.ensures)
 
-add-result : tie.Need-overflow-add-result
+add-result : tie.Need-overflow_add-result
 add-result c = omega (arith, added c, c.before.before.before.before.before.requires.1)
 
 returns-2 : tie.Need-returns-2
 returns-2 c = ap (λ (u : ℕ). c.before.before.before.before.before.args.sum + u) (added c)
 
-pub units-with-spec : {M : Type 1} → statement M
-units-with-spec =
+pub units_with_spec : {M : Type 1} → statement M
+units_with_spec =
     tie.close
     (tie.spec own-slot-requires returns slot-at-requires units-in-requires add-result returns-2)

@@ -43,8 +43,8 @@ returns-3 c = c.no-point3.ensures ∙ ap (λ (j : Judged). no_point (as_answer j
 returns-4 : tie.Need-returns-4
 returns-4 c = c.no-point4.ensures ∙ ap (λ (j : Judged). no_point (as_answer j)) (sym c.before.enum-told2.given.1)
 
-pub without-point-spec : {M : Type 1} → statement M
-without-point-spec =
+pub without_point_spec : {M : Type 1} → statement M
+without_point_spec =
     tie.close
     (tie.spec
     enum_told

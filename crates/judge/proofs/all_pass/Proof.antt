@@ -101,8 +101,8 @@ returns-6 c =
     })
     (λ h. h.totals)
 
-pub all-pass-spec : {M : Type 1} → statement M
-all-pass-spec =
+pub all_pass_spec : {M : Type 1} → statement M
+all_pass_spec =
     tie.close
     (tie.spec
     rows-pass-requires

@@ -29,6 +29,6 @@ returns c =
     let held = holds o instants.instants-of.result instants.instants-of.ensures count.interval-count.result count.interval-count.ensures in
     certifies (as_order o) start.requires _ held _ _ _ _ c.find.ensures
 
-pub certify-spec : {M : Type 1} → statement M
-certify-spec =
+pub certify_spec : {M : Type 1} → statement M
+certify_spec =
     tie.close (tie.spec instants-of-requires interval-count-requires find-requires returns)

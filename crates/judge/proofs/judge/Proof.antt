@@ -47,8 +47,8 @@ returns-3 c =
     let certified = falling.before in
     judged_falls _ _ _ (order_is certified.before.before) (certified.certify.ensures.tells.no falling.if2.false) _ c.fallen.ensures
 
-pub judge-spec : {M : Type 1} → statement M
-judge-spec =
+pub judge_spec : {M : Type 1} → statement M
+judge_spec =
     tie.close
     (tie.spec
     read-order-requires

@@ -49,8 +49,8 @@ returns-6 c =
     })
     (λ h. h.falls)
 
-pub rows-pass-spec : {M : Type 1} → statement M
-rows-pass-spec =
+pub rows_pass_spec : {M : Type 1} → statement M
+rows_pass_spec =
     tie.close
     (tie.spec
     returns

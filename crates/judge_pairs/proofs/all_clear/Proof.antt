@@ -31,7 +31,7 @@ returns c =
     let turn = c.before.before.before in
     tells_off (λ all. tells_not c.before.clear-after.ensures c.if1.true (all turn.loop.i (omega arith) (omega arith)))
 
-add-i : tie.Need-overflow-add-i invariant-loop decreases-loop
+add-i : tie.Need-overflow_add-i invariant-loop decreases-loop
 add-i c = search rules
 
 loop-less : tie.Need-loop-smaller invariant-loop decreases-loop
@@ -45,8 +45,8 @@ loop-again c =
 returns-2 : tie.Need-returns-2 invariant-loop decreases-loop
 returns-2 c = tells_on (λ k l g. c.before.loop.invariant.2 k (omega arith) g)
 
-pub all-clear-spec : {M : Type 1} → statement M
-all-clear-spec =
+pub all_clear_spec : {M : Type 1} → statement M
+all_clear_spec =
     tie.close
     (tie.spec
     invariant-loop

@@ -29,13 +29,13 @@ decreases-loop plan p instants intervals m i₀ i = m - i
 loop-holds : tie.Need-loop-init invariant-loop decreases-loop
 loop-holds c = record { records = refl; from = omega arith; within = omega arith; turns = λ k l g. absurd (omega arith) }
 
-add-loop : tie.Need-overflow-add-loop invariant-loop decreases-loop
+add-loop : tie.Need-overflow_add-loop invariant-loop decreases-loop
 add-loop c = search rules
 
 slot-at-requires : tie.Need-slot-at-requires invariant-loop decreases-loop
 slot-at-requires c κs = omega arith
 
-add-slot-at : tie.Need-overflow-add-slot-at invariant-loop decreases-loop
+add-slot-at : tie.Need-overflow_add-slot-at invariant-loop decreases-loop
 add-slot-at c = search rules
 
 slot-at-requires-2 : tie.Need-slot-at-requires-2 invariant-loop decreases-loop
@@ -61,7 +61,7 @@ returns c =
     tells_not c.before.in_turn_lem.ensures c.if1.true
     (rw (slot.slot_at.ensures, next.slot-at2.ensures) (all turn.loop.i (omega arith) (omega arith))))
 
-add-i : tie.Need-overflow-add-i invariant-loop decreases-loop
+add-i : tie.Need-overflow_add-i invariant-loop decreases-loop
 add-i c = search rules
 
 loop-less : tie.Need-loop-smaller invariant-loop decreases-loop
@@ -82,8 +82,8 @@ loop-again c =
 returns-2 : tie.Need-returns-2 invariant-loop decreases-loop
 returns-2 c = tells_on (λ k l g. c.before.loop.invariant.turns k (omega arith) g)
 
-pub all-in-turn-spec : {M : Type 1} → statement M
-all-in-turn-spec =
+pub all_in_turn_spec : {M : Type 1} → statement M
+all_in_turn_spec =
     tie.close
     (tie.spec
     invariant-loop

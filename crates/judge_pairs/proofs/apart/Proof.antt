@@ -22,5 +22,5 @@ returns-3 c =
     tells_by c.ends-by2.ensures (λ q. record { clear = λ e. inr q })
     (λ h. elim (h.clear c.before.before.before.if1.false) [ inl q ↦ absurd (c.before.before.ends_by.ensures.no c.before.if2.false q) | inr q ↦ q ])
 
-pub apart-spec : {M : Type 1} → statement M
-apart-spec = tie.close (tie.spec returns ends-by-requires returns-2 ends-by-requires-2 returns-3)
+pub apart_spec : {M : Type 1} → statement M
+apart_spec = tie.close (tie.spec returns ends-by-requires returns-2 ends-by-requires-2 returns-3)

@@ -34,10 +34,10 @@ slot-at-requires c κs = search rules
 interval-of-requires : tie.Need-interval-of-requires invariant-loop decreases-loop
 interval-of-requires c κs = search rules
 
-add-end : tie.Need-overflow-add-end invariant-loop decreases-loop
+add-end : tie.Need-overflow_add-end invariant-loop decreases-loop
 add-end c = omega (arith, c.interval-of.ensures.1, c.before.before.before.requires.0)
 
-mul-end : tie.Need-overflow-mul-end invariant-loop decreases-loop
+mul-end : tie.Need-overflow_mul-end invariant-loop decreases-loop
 mul-end c = search rules
 
 element-copy-out-end : tie.Need-element-copy-out-end invariant-loop decreases-loop
@@ -49,7 +49,7 @@ element-copy-out-end c =
     subst (λ (x : Slot). place_in A.instants.now A.intervals x < A.intervals) (sym slot.slot_at.ensures) (start.requires.3.place A.i start.requires.2 start.requires.1) in
     omega (arith, c.interval-of.ensures.0, start.requires.0)
 
-add-l : tie.Need-overflow-add-l invariant-loop decreases-loop
+add-l : tie.Need-overflow_add-l invariant-loop decreases-loop
 add-l c = search rules
 
 loop-holds : tie.Need-loop-init invariant-loop decreases-loop
@@ -93,7 +93,7 @@ returns-2 c =
     let next = c.before.before.before.before in
     tells_off (λ all. tells_not c.before.apart.ensures c.if2.true (apart_within (behind next) c.before.before.if1.false all))
 
-add-l-2 : tie.Need-overflow-add-l-2 invariant-loop decreases-loop
+add-l-2 : tie.Need-overflow_add-l-2 invariant-loop decreases-loop
 add-l-2 c = search rules
 
 loop-less : tie.Need-loop-smaller invariant-loop decreases-loop
@@ -115,8 +115,8 @@ returns-3 c =
     let A = c.before.before.before.before.before.before.args in
     tells_on (at_end (λ (x : ℕ). ApartAfter A.instants.now A.intervals A.plan.now A.i x) (omega arith) c.before.loop.invariant.clear)
 
-pub clear-after-spec : {M : Type 1} → statement M
-clear-after-spec =
+pub clear_after_spec : {M : Type 1} → statement M
+clear_after_spec =
     tie.close
     (tie.spec
     invariant-loop

@@ -35,5 +35,5 @@ returns-3 c =
     (λ l. ends_together start.requires.0 start.requires.1 one-tick (rw (by_end, by_start) at l))
     (λ h. rw (by_end, by_start) (ends_parts start.requires.0 start.requires.1 one-tick h))
 
-pub ends-by-spec : {M : Type 1} → statement M
-ends-by-spec = tie.close (tie.spec returns returns-2 product-requires product-requires-2 returns-3)
+pub ends_by_spec : {M : Type 1} → statement M
+ends_by_spec = tie.close (tie.spec returns returns-2 product-requires product-requires-2 returns-3)

@@ -54,8 +54,8 @@ returns-5 c =
     let fan : A.s.fan ≡ A.u.fan = omega (arith, fans.if3.false, c.before.if4.false) in
     tells_by c.ends_by.ensures (by_time (one-interval intervals) fan) (λ h. turn_time h (one-interval intervals) fan)
 
-pub in-turn-spec : {M : Type 1} → statement M
-in-turn-spec =
+pub in_turn_spec : {M : Type 1} → statement M
+in_turn_spec =
     tie.close
     (tie.spec
     interval-of-requires

@@ -94,7 +94,7 @@ returns c =
 free-after-requires : tie.Need-free-after-requires invariant-loop decreases-loop
 free-after-requires c κs = search rules
 
-add-i : tie.Need-overflow-add-i invariant-loop decreases-loop
+add-i : tie.Need-overflow_add-i invariant-loop decreases-loop
 add-i c = search rules
 
 loop-less : tie.Need-loop-smaller invariant-loop decreases-loop
@@ -114,8 +114,8 @@ loop-again c =
 returns-2 : tie.Need-returns-2 invariant-loop decreases-loop
 returns-2 c = tells_on (λ k l. c.before.loop.invariant.2 k (omega arith))
 
-pub classes-fit-spec : {M : Type 1} → statement M
-classes-fit-spec =
+pub classes_fit_spec : {M : Type 1} → statement M
+classes_fit_spec =
     tie.close
     (tie.spec
     invariant-loop

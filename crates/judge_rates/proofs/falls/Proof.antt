@@ -20,5 +20,5 @@ returns-2 c =
     let t = c.if1.false in
     tells_on (record { fall = omega arith })
 
-pub falls-spec : {M : Type 1} → statement M
-falls-spec = tie.close (tie.spec excess-requires returns returns-2)
+pub falls_spec : {M : Type 1} → statement M
+falls_spec = tie.close (tie.spec excess-requires returns returns-2)

@@ -18,13 +18,13 @@ decreases-loop free row left₀ j₀ left j = most_intervals - j
 loop-holds : tie.Need-loop-init invariant-loop decreases-loop
 loop-holds c = done_none refl
 
-mul-less : tie.Need-overflow-mul-less invariant-loop decreases-loop
+mul-less : tie.Need-overflow_mul-less invariant-loop decreases-loop
 mul-less c = search rules
 
 array-read-less : tie.Need-array-read-smaller invariant-loop decreases-loop
 array-read-less c = search rules
 
-mul-less-2 : tie.Need-overflow-mul-less-2 invariant-loop decreases-loop
+mul-less-2 : tie.Need-overflow_mul-less-2 invariant-loop decreases-loop
 mul-less-2 c = search rules
 
 array-read-less-2 : tie.Need-array-read-smaller-2 invariant-loop decreases-loop
@@ -33,13 +33,13 @@ array-read-less-2 c = search rules
 less-requires : tie.Need-less-requires invariant-loop decreases-loop
 less-requires c κs = search rules
 
-mul_left : tie.Need-overflow-mul-left invariant-loop decreases-loop
+mul_left : tie.Need-overflow_mul-left invariant-loop decreases-loop
 mul_left c = search rules
 
 array-write-left : tie.Need-array-write-left invariant-loop decreases-loop
 array-write-left c = search rules
 
-add-j : tie.Need-overflow-add-j invariant-loop decreases-loop
+add-j : tie.Need-overflow_add-j invariant-loop decreases-loop
 add-j c = search rules
 
 loop-less : tie.Need-loop-smaller invariant-loop decreases-loop
@@ -51,8 +51,8 @@ loop-again c = done_next c.before.before.loop.invariant (omega arith) c.less.ens
 returns : tie.Need-returns invariant-loop decreases-loop
 returns c = done_all c.before.loop.invariant (omega arith)
 
-pub free-after-spec : {M : Type 1} → statement M
-free-after-spec =
+pub free_after_spec : {M : Type 1} → statement M
+free_after_spec =
     tie.close
     (tie.spec
     invariant-loop

@@ -18,13 +18,13 @@ decreases-loop plan p i₀ i = p - i
 loop-holds : tie.Need-loop-init invariant-loop decreases-loop
 loop-holds c = (omega arith, λ k l. absurd (omega arith))
 
-add-loop : tie.Need-overflow-add-loop invariant-loop decreases-loop
+add-loop : tie.Need-overflow_add-loop invariant-loop decreases-loop
 add-loop c = search rules
 
 class-at-requires : tie.Need-class-at-requires invariant-loop decreases-loop
 class-at-requires c κs = search rules
 
-add-class-at : tie.Need-overflow-add-class-at invariant-loop decreases-loop
+add-class-at : tie.Need-overflow_add-class-at invariant-loop decreases-loop
 add-class-at c = search rules
 
 class-at-requires-2 : tie.Need-class-at-requires-2 invariant-loop decreases-loop
@@ -41,7 +41,7 @@ returns c =
     tells_off (λ all.
     tells_not c.before.falls.ensures c.if1.true (rw (class.class_at_lem.ensures, next.class-at2.ensures) (all turn.loop.i (omega arith))))
 
-add-i : tie.Need-overflow-add-i invariant-loop decreases-loop
+add-i : tie.Need-overflow_add-i invariant-loop decreases-loop
 add-i c = search rules
 
 loop-less : tie.Need-loop-smaller invariant-loop decreases-loop
@@ -58,8 +58,8 @@ loop-again c =
 returns-2 : tie.Need-returns-2 invariant-loop decreases-loop
 returns-2 c = tells_on (λ k l. c.before.loop.invariant.1 k (omega arith))
 
-pub rates-fall-spec : {M : Type 1} → statement M
-rates-fall-spec =
+pub rates_fall_spec : {M : Type 1} → statement M
+rates_fall_spec =
     tie.close
     (tie.spec
     invariant-loop

@@ -32,7 +32,7 @@ returns-2 c =
     let ends = c.before.ends.ensures in
     tells_leb c.before.ends.result c.moment2.result (λ l. record { low = omega (arith, tested.if1.false); high = omega (arith, l) }) (λ h. omega (arith, h.high))
 
-pub between-spec : {M : Type 1} → statement M
-between-spec =
+pub between_spec : {M : Type 1} → statement M
+between_spec =
     tie.close
     (tie.spec starts-requires moment-requires returns ends-requires moment-requires-2 returns-2)

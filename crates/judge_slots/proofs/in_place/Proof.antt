@@ -11,16 +11,16 @@ interval-of-requires c κs = search rules
 returns : tie.Need-returns
 returns c = tells_off (λ h. omega (arith, h.place, c.before.interval-of.ensures.0, c.if1.true))
 
-mul-between : tie.Need-overflow-mul-between
+mul-between : tie.Need-overflow_mul-between
 mul-between c = search rules
 
 element-copy-out-between : tie.Need-element-copy-out-between
 element-copy-out-between c = search rules
 
-add-between : tie.Need-overflow-add-between
+add-between : tie.Need-overflow_add-between
 add-between c = search rules
 
-mul-between-2 : tie.Need-overflow-mul-between-2
+mul-between-2 : tie.Need-overflow_mul-between-2
 mul-between-2 c = search rules
 
 element-copy-out-between-2 : tie.Need-element-copy-out-between-2
@@ -36,8 +36,8 @@ returns-2 c =
     let within = found.if1.false in
     tells_by c.between.ensures (λ b. record { place = omega arith; interval = rw place at b }) (λ h. rw place h.interval)
 
-pub in-place-spec : {M : Type 1} → statement M
-in-place-spec =
+pub in_place_spec : {M : Type 1} → statement M
+in_place_spec =
     tie.close
     (tie.spec
     interval-of-requires

@@ -18,10 +18,10 @@ decreases-loop instants intervals tick j₀ j = intervals - j
 loop-holds : tie.Need-loop-init invariant-loop decreases-loop
 loop-holds c = (omega arith, rw sub-zero)
 
-add-if1 : tie.Need-overflow-add-if1 invariant-loop decreases-loop
+add-if1 : tie.Need-overflow_add-if1 invariant-loop decreases-loop
 add-if1 c = search rules
 
-mul-if1 : tie.Need-overflow-mul-if1 invariant-loop decreases-loop
+mul-if1 : tie.Need-overflow_mul-if1 invariant-loop decreases-loop
 mul-if1 c = search rules
 
 element-copy-out-if1 : tie.Need-element-copy-out-if1 invariant-loop decreases-loop
@@ -30,7 +30,7 @@ element-copy-out-if1 c = search rules
 returns : tie.Need-returns invariant-loop decreases-loop
 returns c = (sym (scan_stop _ _ _ _ (omega arith) c.if1.true) ∙ c.before.before.before.loop.invariant.1, omega arith)
 
-add-j : tie.Need-overflow-add-j invariant-loop decreases-loop
+add-j : tie.Need-overflow_add-j invariant-loop decreases-loop
 add-j c = search rules
 
 loop-less : tie.Need-loop-smaller invariant-loop decreases-loop
@@ -46,8 +46,8 @@ loop-again c =
 returns-2 : tie.Need-returns-2 invariant-loop decreases-loop
 returns-2 c = (sym (scan_none _ _ _ _ (omega arith)) ∙ c.before.loop.invariant.1, omega arith)
 
-pub interval-of-spec : {M : Type 1} → statement M
-interval-of-spec =
+pub interval_of_spec : {M : Type 1} → statement M
+interval_of_spec =
     tie.close
     (tie.spec
     invariant-loop

@@ -11,13 +11,13 @@ use borrow.Author.Rules.{rules}
 use Rattle.judge_slots.proofs.slot_fits.Statement.{statement}
 use Rattle.judge_slots.proofs.slot_fits.Tie as tie
 
-cast-k : tie.Need-overflow-cast-k
+cast-k : tie.Need-overflow_cast-k
 cast-k c = search rules
 
 returns : tie.Need-returns
 returns c = tells_off (λ h. omega (arith, h.dose, c.if1.true))
 
-mul-number : tie.Need-overflow-mul-number
+mul-number : tie.Need-overflow_mul-number
 mul-number c = search rules
 
 element-copy-out-number : tie.Need-element-copy-out-number
@@ -35,7 +35,7 @@ numbered c =
     let start = known.before.before.before in
     rw c.index.ensures.0 (start.requires.2 start.args.s.dose known.if1.false)
 
-sub-class-at : tie.Need-overflow-sub-class-at
+sub-class-at : tie.Need-overflow_sub-class-at
 sub-class-at c = omega (arith, numbered c)
 
 class-at-requires : tie.Need-class-at-requires
@@ -61,13 +61,13 @@ slot-long-requires c κs = search rules
 returns-3 : tie.Need-returns-3
 returns-3 c = tells_off (λ h. tells_not c.before.slot-long.ensures c.if3.true h.long)
 
-mul-between : tie.Need-overflow-mul-between
+mul-between : tie.Need-overflow_mul-between
 mul-between c = search rules
 
 element-copy-out-between : tie.Need-element-copy-out-between
 element-copy-out-between c = search rules
 
-mul-between-2 : tie.Need-overflow-mul-between-2
+mul-between-2 : tie.Need-overflow_mul-between-2
 mul-between-2 c = search rules
 
 element-copy-out-between-2 : tie.Need-element-copy-out-between-2
@@ -99,8 +99,8 @@ returns-5 c =
     })
     (λ h. h.inside)
 
-pub slot-fits-spec : {M : Type 1} → statement M
-slot-fits-spec =
+pub slot_fits_spec : {M : Type 1} → statement M
+slot_fits_spec =
     tie.close
     (tie.spec
     cast-k

@@ -26,5 +26,5 @@ returns-3 c =
     (λ l. record { start_part_lem = parts.before.before.if1.false; end_part_lem = parts.if2.false; long = omega (arith, l) })
     (λ h. omega (arith, h.long))
 
-pub slot-long-spec : {M : Type 1} → statement M
-slot-long-spec = tie.close (tie.spec returns returns-2 starts-requires ends-requires returns-3)
+pub slot_long_spec : {M : Type 1} → statement M
+slot_long_spec = tie.close (tie.spec returns returns-2 starts-requires ends-requires returns-3)

@@ -24,5 +24,5 @@ returns-5 c =
     let e = c.before.if4.false in
     tells_leb _ _ (λ l. record { class = a; weight = b; time = d; fan_from = e; fan_to = l }) (λ h. h.fan_to)
 
-pub slot-names-spec : {M : Type 1} → statement M
-slot-names-spec = tie.close (tie.spec returns returns-2 returns-3 returns-4 returns-5)
+pub slot_names_spec : {M : Type 1} → statement M
+slot_names_spec = tie.close (tie.spec returns returns-2 returns-3 returns-4 returns-5)

@@ -35,7 +35,7 @@ returns c =
     let turn = slot.before.before in
     tells_off (λ all. tells_not c.before.slot_fits_lem.ensures c.if1.true (rw slot.slot_at.ensures (all turn.loop.i (omega arith) (omega arith))))
 
-add-i : tie.Need-overflow-add-i invariant-loop decreases-loop
+add-i : tie.Need-overflow_add-i invariant-loop decreases-loop
 add-i c = search rules
 
 loop-less : tie.Need-loop-smaller invariant-loop decreases-loop
@@ -51,8 +51,8 @@ loop-again c =
 returns-2 : tie.Need-returns-2 invariant-loop decreases-loop
 returns-2 c = tells_on (λ k l g. c.before.loop.invariant.2 k (omega arith) g)
 
-pub slots-fit-spec : {M : Type 1} → statement M
-slots-fit-spec =
+pub slots_fit_spec : {M : Type 1} → statement M
+slots_fit_spec =
     tie.close
     (tie.spec
     invariant-loop

@@ -12,5 +12,5 @@ verdict-of-requires c κs = search rules
 returns : tie.Need-returns
 returns c = rw c.verdict-of.ensures c.before.judge.ensures.answer
 
-pub knellgable-judge-spec : {M : Type 1} → statement M
-knellgable-judge-spec = tie.close (tie.spec judge-requires verdict-of-requires returns)
+pub knellgable_judge_spec : {M : Type 1} → statement M
+knellgable_judge_spec = tie.close (tie.spec judge-requires verdict-of-requires returns)

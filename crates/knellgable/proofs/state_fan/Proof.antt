@@ -35,7 +35,7 @@ returns-4 : tie.Need-returns-4
 unfolding as_state state_fan
 returns-4 c = ap (λ (s : State). state_fan (as_state s)) (sym c.before.s.given.1)
 
-pub state-fan-spec : {M : Type 1} → statement M
-state-fan-spec =
+pub state_fan_spec : {M : Type 1} → statement M
+state_fan_spec =
     tie.close
     (tie.spec enum_told enum-told-2 enum-told-3 enum-known-s returns returns-2 returns-3 returns-4)

@@ -35,7 +35,7 @@ returns-4 : tie.Need-returns-4
 unfolding as_state state_number
 returns-4 c = ap (λ (s : State). state_number (as_state s)) (sym c.enum-told4.given.1)
 
-pub state-number-spec : {M : Type 1} → statement M
-state-number-spec =
+pub state_number_spec : {M : Type 1} → statement M
+state_number_spec =
     tie.close
     (tie.spec enum_told enum-told-2 enum-told-3 enum-told-4 returns returns-2 returns-3 returns-4)

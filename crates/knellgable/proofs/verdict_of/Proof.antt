@@ -42,8 +42,8 @@ returns-3 c = c.verdict3.ensures ∙ ap (λ (j : Judged). as_answer j) (sym c.be
 returns-4 : tie.Need-returns-4
 returns-4 c = c.verdict4.ensures ∙ ap (λ (j : Judged). as_answer j) (sym c.before.enum-told2.given.1)
 
-pub verdict-of-spec : {M : Type 1} → statement M
-verdict-of-spec =
+pub verdict_of_spec : {M : Type 1} → statement M
+verdict_of_spec =
     tie.close
     (tie.spec
     enum_told

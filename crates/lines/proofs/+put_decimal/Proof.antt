@@ -30,7 +30,7 @@ put-decimal-returns t c = put_no_place _ _ _ _ c.if1.true
 
 put-decimal-cast-b :
     (t : ℕ) →
-    put-decimal-lts.Need-overflow-cast-b
+    put-decimal-lts.Need-overflow_cast-b
     (put-decimal-below t, put-decimal.Post)
     (put-decimal-at t)
     put-decimal.Post
@@ -38,7 +38,7 @@ put-decimal-cast-b t c = search rules
 
 put-decimal-add-b :
     (t : ℕ) →
-    put-decimal-lts.Need-overflow-add-b
+    put-decimal-lts.Need-overflow_add-b
     (put-decimal-below t, put-decimal.Post)
     (put-decimal-at t)
     put-decimal.Post
@@ -50,7 +50,7 @@ put-decimal-slice-write-b : (t : ℕ) → put-decimal-lts.Need-slice-write-b (
 ) (put-decimal-at t) put-decimal.Post
 put-decimal-slice-write-b t c = search rules
 
-put-decimal-add-result : (t : ℕ) → put-decimal-lts.Need-overflow-add-result (
+put-decimal-add-result : (t : ℕ) → put-decimal-lts.Need-overflow_add-result (
   put-decimal-below t,
   put-decimal.Post,
 ) (put-decimal-at t) put-decimal.Post
@@ -68,7 +68,7 @@ put-decimal-returns-2 : (t : ℕ) → put-decimal-lts.Need-returns-2 (
 ) (put-decimal-at t) put-decimal.Post
 put-decimal-returns-2 t c = put_digit _ _ _ _ c.before.if1.false c.if2.true
 
-put-decimal-sub-put-decimal : (t : ℕ) → put-decimal-lts.Need-overflow-sub-put-decimal (
+put-decimal-sub-put-decimal : (t : ℕ) → put-decimal-lts.Need-overflow_sub-put-decimal (
   put-decimal-below t,
   put-decimal.Post,
 ) (put-decimal-at t) put-decimal.Post
@@ -80,13 +80,13 @@ put-decimal-put-decimal-requires : (t : ℕ) → put-decimal-lts.Need-put-decima
 ) (put-decimal-at t) put-decimal.Post
 put-decimal-put-decimal-requires t c κs = search rules
 
-put-decimal-cast-b-2 : (t : ℕ) → put-decimal-lts.Need-overflow-cast-b-2 (
+put-decimal-cast-b-2 : (t : ℕ) → put-decimal-lts.Need-overflow_cast-b-2 (
   put-decimal-below t,
   put-decimal.Post,
 ) (put-decimal-at t) put-decimal.Post
 put-decimal-cast-b-2 t c = search rules
 
-put-decimal-add-b-2 : (t : ℕ) → put-decimal-lts.Need-overflow-add-b-2 (
+put-decimal-add-b-2 : (t : ℕ) → put-decimal-lts.Need-overflow_add-b-2 (
   put-decimal-below t,
   put-decimal.Post,
 ) (put-decimal-at t) put-decimal.Post
@@ -101,7 +101,7 @@ put-decimal-slice-write-b-2 t c =
     let A = put.before.before.before.before.before.args in
     omega (arith, put.put-decimal.ensures.next, decimal_length (A.places - 1) (A.v / 10))
 
-put-decimal-add-result-2 : (t : ℕ) → put-decimal-lts.Need-overflow-add-result-2 (
+put-decimal-add-result-2 : (t : ℕ) → put-decimal-lts.Need-overflow_add-result-2 (
   put-decimal-below t,
   put-decimal.Post,
 ) (put-decimal-at t) put-decimal.Post
@@ -125,8 +125,8 @@ put-decimal-returns-3 t c =
     let test = put.before.before in
     put_last _ _ _ _ _ _ test.before.if1.false test.if2.false put.put-decimal.ensures
 
-pub +put-decimal-spec : {M : Type 1} → statement M
-+put-decimal-spec = close μ-put-decimal λ t. put-decimal-lts.spec (
+pub +put_decimal_spec : {M : Type 1} → statement M
++put_decimal_spec = close μ-put-decimal λ t. put-decimal-lts.spec (
   put-decimal-below t,
   put-decimal.Post,
 )

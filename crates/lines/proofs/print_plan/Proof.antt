@@ -7,7 +7,7 @@ use borrow.Author.Rules.{rules}
 use Rattle.lines.proofs.print_plan.Statement.{statement}
 use Rattle.lines.proofs.print_plan.Tie as tie
 
-add-put-records : tie.Need-overflow-add-put-records
+add-put-records : tie.Need-overflow_add-put-records
 add-put-records c = search rules
 
 put-records-requires : tie.Need-put-records-requires
@@ -29,7 +29,7 @@ returns c =
     let put = total.before.before.before.before in
     put_more put.put-records.ensures total.put-total.ensures
 
-pub print-plan-spec : {M : Type 1} → statement M
-print-plan-spec =
+pub print_plan_spec : {M : Type 1} → statement M
+print_plan_spec =
     tie.close
     (tie.spec add-put-records put-records-requires put-total-requires same_length returns)

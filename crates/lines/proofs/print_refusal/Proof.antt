@@ -38,8 +38,8 @@ returns-2 c =
     let put = c.before.before in
     put_other _ _ _ _ _ put.before.before.before.before.if1.false put.put-line2.ensures
 
-pub print-refusal-spec : {M : Type 1} → statement M
-print-refusal-spec =
+pub print_refusal_spec : {M : Type 1} → statement M
+print_refusal_spec =
     tie.close
     (tie.spec
     slice-aggregate-put-line

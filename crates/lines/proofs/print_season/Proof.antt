@@ -55,8 +55,8 @@ returns c =
     let accepted = refusals.before.before.before.before in
     put_more accepted.put-bare-line.ensures (put_more refusals.put-refusals.ensures totals.put-totals.ensures)
 
-pub print-season-spec : {M : Type 1} → statement M
-print-season-spec =
+pub print_season_spec : {M : Type 1} → statement M
+print_season_spec =
     tie.close
     (tie.spec
     slice-aggregate-put-bare-line

@@ -25,5 +25,5 @@ returns c =
     let rest = c.before.before in
     put_more rest.before.before.before.before.put-decimal.ensures rest.put_rest.ensures
 
-pub put-bare-line-spec : {M : Type 1} → statement M
-put-bare-line-spec = tie.close (tie.spec put-decimal-requires put-rest-requires same_length returns)
+pub put_bare_line_spec : {M : Type 1} → statement M
+put_bare_line_spec = tie.close (tie.spec put-decimal-requires put-rest-requires same_length returns)

@@ -4,16 +4,16 @@ use borrow.Author.Rules.{rules}
 use Rattle.lines.proofs.put_class_line.Statement.{statement}
 use Rattle.lines.proofs.put_class_line.Tie as tie
 
-cast-t6 : tie.Need-overflow-cast-t6
+cast-t6 : tie.Need-overflow_cast-t6
 cast-t6 c = search rules
 
-cast-t7 : tie.Need-overflow-cast-t7
+cast-t7 : tie.Need-overflow_cast-t7
 cast-t7 c = search rules
 
-cast-t8 : tie.Need-overflow-cast-t8
+cast-t8 : tie.Need-overflow_cast-t8
 cast-t8 c = search rules
 
-cast-t9 : tie.Need-overflow-cast-t9
+cast-t9 : tie.Need-overflow_cast-t9
 cast-t9 c = search rules
 
 slice-aggregate-put-line : tie.Need-slice-aggregate-put-line
@@ -32,8 +32,8 @@ returns : tie.Need-returns
 unfolding class_text
 returns c = c.before.before.put-line.ensures
 
-pub put-class-line-spec : {M : Type 1} → statement M
-put-class-line-spec =
+pub put_class_line_spec : {M : Type 1} → statement M
+put_class_line_spec =
     tie.close
     (tie.spec
     cast-t6

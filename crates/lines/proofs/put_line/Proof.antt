@@ -24,5 +24,5 @@ returns c =
     let rest = c.before.before in
     put_more rest.before.before.before.before.put_word.ensures rest.put_rest.ensures
 
-pub put-line-spec : {M : Type 1} → statement M
-put-line-spec = tie.close (tie.spec put-word-requires put-rest-requires same_length returns)
+pub put_line_spec : {M : Type 1} → statement M
+put_line_spec = tie.close (tie.spec put-word-requires put-rest-requires same_length returns)

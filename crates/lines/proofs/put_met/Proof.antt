@@ -21,5 +21,5 @@ returns-2 c =
     let put = c.before.before in
     met_line _ _ put.before.before.before.if1.false put.put-bare-line.ensures
 
-pub put-met-spec : {M : Type 1} → statement M
-put-met-spec = tie.close (tie.spec returns slice-aggregate-put-bare-line put-bare-line-requires same_length returns-2)
+pub put_met_spec : {M : Type 1} → statement M
+put_met_spec = tie.close (tie.spec returns slice-aggregate-put-bare-line put-bare-line-requires same_length returns-2)

@@ -9,7 +9,7 @@ use Rattle.lines.proofs.put_number.Tie as tie
 slice-write-b : tie.Need-slice-write-b
 slice-write-b c = search rules
 
-add-put-decimal : tie.Need-overflow-add-put-decimal
+add-put-decimal : tie.Need-overflow_add-put-decimal
 add-put-decimal c = search rules
 
 put-decimal-requires : tie.Need-put-decimal-requires
@@ -21,6 +21,6 @@ same_length c = simp length-set at (put_length c.before.before.put-decimal.ensur
 returns : tie.Need-returns
 returns c = put_more (put_one _ _ _) c.before.before.put-decimal.ensures
 
-pub put-number-spec : {M : Type 1} → statement M
-put-number-spec =
+pub put_number_spec : {M : Type 1} → statement M
+put_number_spec =
     tie.close (tie.spec slice-write-b add-put-decimal put-decimal-requires same_length returns)

@@ -18,7 +18,7 @@ decreases-loop b₀ at numbers next₀ i₀ b next i = length numbers - i
 loop-holds : tie.Need-loop-init invariant-loop decreases-loop
 loop-holds c = (omega arith, refl, numbers_none c.before.before.args.numbers.now _ _)
 
-mul-put-number : tie.Need-overflow-mul-put-number invariant-loop decreases-loop
+mul-put-number : tie.Need-overflow_mul-put-number invariant-loop decreases-loop
 mul-put-number c = search rules
 
 shared-slice-read-put-number : tie.Need-shared-slice-read-put-number invariant-loop decreases-loop
@@ -30,7 +30,7 @@ put-number-requires c κs =
     let A = loop.before.before.before.args in
     omega (arith, numbers_room A.numbers.now _ _ _ loop.loop.invariant.0 loop.loop.invariant.2)
 
-add-i : tie.Need-overflow-add-i invariant-loop decreases-loop
+add-i : tie.Need-overflow_add-i invariant-loop decreases-loop
 add-i c = search rules
 
 loop-less : tie.Need-loop-smaller invariant-loop decreases-loop
@@ -53,8 +53,8 @@ returns c =
     let A = loop.before.before.before.args in
     numbers_all A.numbers.now _ _ loop.loop.i (omega arith) loop.loop.invariant.2
 
-pub put-numbers-spec : {M : Type 1} → statement M
-put-numbers-spec =
+pub put_numbers_spec : {M : Type 1} → statement M
+put_numbers_spec =
     tie.close
     (tie.spec
     invariant-loop

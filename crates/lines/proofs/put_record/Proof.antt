@@ -44,8 +44,8 @@ returns-2 c =
     let A = kind.before.before.before.args in
     put_of_slot A.plan.now A.i (λ e. test.if1.false (kind.kind_at.ensures ∙ e)) read.slot_at.ensures put.put-slot-line.ensures
 
-pub put-record-spec : {M : Type 1} → statement M
-put-record-spec =
+pub put_record_spec : {M : Type 1} → statement M
+put_record_spec =
     tie.close
     (tie.spec
     kind-at-requires

@@ -27,7 +27,7 @@ put-record-requires c κs =
     let A = loop.before.before.before.args in
     (omega arith, omega (arith, records_end A.plan.now _ loop.loop.invariant.2))
 
-add-i : tie.Need-overflow-add-i invariant-loop decreases-loop
+add-i : tie.Need-overflow_add-i invariant-loop decreases-loop
 add-i c = search rules
 
 loop-less : tie.Need-loop-smaller invariant-loop decreases-loop
@@ -49,8 +49,8 @@ returns c =
     let e : loop.loop.i ≡ loop.before.before.before.args.n = omega arith in
     rw e at loop.loop.invariant.2
 
-pub put-records-spec : {M : Type 1} → statement M
-put-records-spec =
+pub put_records_spec : {M : Type 1} → statement M
+put_records_spec =
     tie.close
     (tie.spec
     invariant-loop

@@ -26,7 +26,7 @@ decreases-loop b₀ at refused next₀ n₀ b next n = order_numbers - n
 loop-holds : tie.Need-loop-init invariant-loop decreases-loop
 loop-holds c = let A = c.before.args in (omega arith, refl, lines_none (line_of A.t3) _ A.at)
 
-mul-put-met : tie.Need-overflow-mul-put-met invariant-loop decreases-loop
+mul-put-met : tie.Need-overflow_mul-put-met invariant-loop decreases-loop
 mul-put-met c = search rules
 
 array-read-put-met : tie.Need-array-read-put-met invariant-loop decreases-loop
@@ -38,7 +38,7 @@ put-met-requires c κs =
     let counts = loop.before.before.args.t3 in
     omega (arith, loop.loop.invariant.1, lines_end (line_of counts) 42 (λ k. met_length k (get_or counts k 0)) loop.loop.n loop.loop.invariant.2)
 
-add-n : tie.Need-overflow-add-n invariant-loop decreases-loop
+add-n : tie.Need-overflow_add-n invariant-loop decreases-loop
 add-n c = search rules
 
 loop-less : tie.Need-loop-smaller invariant-loop decreases-loop
@@ -60,8 +60,8 @@ returns c =
     let e : loop.loop.n ≡ order_numbers = omega arith in
     rw e at loop.loop.invariant.2
 
-pub put-refusals-spec : {M : Type 1} → statement M
-put-refusals-spec =
+pub put_refusals_spec : {M : Type 1} → statement M
+put_refusals_spec =
     tie.close
     (tie.spec
     invariant-loop

@@ -14,7 +14,7 @@ slice-write-b c =
     let numbers = c.before.before in
     newline_room _ numbers.put-numbers.ensures numbers.before.before.before.before.requires
 
-add-result : tie.Need-overflow-add-result
+add-result : tie.Need-overflow_add-result
 add-result c = omega (arith, slice-write-b c)
 
 same_length : tie.Need-same-length
@@ -23,5 +23,5 @@ same_length c = simp length-set (put_length c.before.before.put-numbers.ensures)
 returns : tie.Need-returns
 returns c = put_more c.before.before.put-numbers.ensures (put_one _ _ _)
 
-pub put-rest-spec : {M : Type 1} → statement M
-put-rest-spec = tie.close (tie.spec put-numbers-requires slice-write-b add-result same_length returns)
+pub put_rest_spec : {M : Type 1} → statement M
+put_rest_spec = tie.close (tie.spec put-numbers-requires slice-write-b add-result same_length returns)

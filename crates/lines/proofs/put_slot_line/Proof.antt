@@ -4,25 +4,25 @@ use borrow.Author.Rules.{rules}
 use Rattle.lines.proofs.put_slot_line.Statement.{statement}
 use Rattle.lines.proofs.put_slot_line.Tie as tie
 
-cast-t6 : tie.Need-overflow-cast-t6
+cast-t6 : tie.Need-overflow_cast-t6
 cast-t6 c = search rules
 
-cast-t7 : tie.Need-overflow-cast-t7
+cast-t7 : tie.Need-overflow_cast-t7
 cast-t7 c = search rules
 
-cast-t8 : tie.Need-overflow-cast-t8
+cast-t8 : tie.Need-overflow_cast-t8
 cast-t8 c = search rules
 
-cast-t9 : tie.Need-overflow-cast-t9
+cast-t9 : tie.Need-overflow_cast-t9
 cast-t9 c = search rules
 
-cast-t10 : tie.Need-overflow-cast-t10
+cast-t10 : tie.Need-overflow_cast-t10
 cast-t10 c = search rules
 
-cast-t11 : tie.Need-overflow-cast-t11
+cast-t11 : tie.Need-overflow_cast-t11
 cast-t11 c = search rules
 
-cast-t12 : tie.Need-overflow-cast-t12
+cast-t12 : tie.Need-overflow_cast-t12
 cast-t12 c = search rules
 
 slice-aggregate-put-line : tie.Need-slice-aggregate-put-line
@@ -41,8 +41,8 @@ returns : tie.Need-returns
 unfolding slot_text
 returns c = c.before.before.put-line.ensures
 
-pub put-slot-line-spec : {M : Type 1} → statement M
-put-slot-line-spec =
+pub put_slot_line_spec : {M : Type 1} → statement M
+put_slot_line_spec =
     tie.close
     (tie.spec
     cast-t6

@@ -20,8 +20,8 @@ returns : tie.Need-returns
 unfolding total_text
 returns c = c.before.before.put-line.ensures
 
-pub put-total-spec : {M : Type 1} → statement M
-put-total-spec =
+pub put_total_spec : {M : Type 1} → statement M
+put_total_spec =
     tie.close
     (tie.spec
     slice-aggregate-put-line

@@ -66,8 +66,8 @@ returns c =
     let grams = seconds.before.before.before.before.before in
     put_more grams.put-bare-line.ensures (put_more seconds.put-bare-line2.ensures rate.put-bare-line3.ensures)
 
-pub put-totals-spec : {M : Type 1} → statement M
-put-totals-spec =
+pub put_totals_spec : {M : Type 1} → statement M
+put_totals_spec =
     tie.close
     (tie.spec
     slice-aggregate-put-bare-line

@@ -21,13 +21,13 @@ loop-holds c = (omega arith, refl, word_none c.args.word.now _ _)
 shared-slice-read-b : tie.Need-shared-slice-read-b invariant-loop decreases-loop
 shared-slice-read-b c = search rules
 
-add-b : tie.Need-overflow-add-b invariant-loop decreases-loop
+add-b : tie.Need-overflow_add-b invariant-loop decreases-loop
 add-b c = search rules
 
 slice-write-b : tie.Need-slice-write-b invariant-loop decreases-loop
 slice-write-b c = search rules
 
-add-i : tie.Need-overflow-add-i invariant-loop decreases-loop
+add-i : tie.Need-overflow_add-i invariant-loop decreases-loop
 add-i c = search rules
 
 loop-less : tie.Need-loop-smaller invariant-loop decreases-loop
@@ -39,7 +39,7 @@ loop-again c =
     let loop = test.before in
     (omega arith, simp length-set loop.loop.invariant.1, word_more loop.before.args.word.now _ _ _ test.loop-test.true loop.loop.invariant.2)
 
-add-result : tie.Need-overflow-add-result invariant-loop decreases-loop
+add-result : tie.Need-overflow_add-result invariant-loop decreases-loop
 add-result c = search rules
 
 same_length : tie.Need-same-length invariant-loop decreases-loop
@@ -48,8 +48,8 @@ same_length c = search rules
 returns : tie.Need-returns invariant-loop decreases-loop
 returns c = word_all c.before.before.args.word.now _ _ _ c.before.loop.invariant.0 (omega arith) c.before.loop.invariant.2
 
-pub put-word-spec : {M : Type 1} → statement M
-put-word-spec =
+pub put_word_spec : {M : Type 1} → statement M
+put_word_spec =
     tie.close
     (tie.spec
     invariant-loop

@@ -50,7 +50,7 @@ loop-holds c = (
 array-read-if1 : tie.Need-array-read-if1 invariant-loop decreases-loop
 array-read-if1 c = search rules
 
-add-k : tie.Need-overflow-add-k invariant-loop decreases-loop
+add-k : tie.Need-overflow_add-k invariant-loop decreases-loop
 add-k c = search rules
 
 loop-less : tie.Need-loop-smaller invariant-loop decreases-loop
@@ -71,13 +71,13 @@ loop-again c =
       },
     )
 
-mul-count-dose : tie.Need-overflow-mul-count-dose invariant-loop decreases-loop
+mul-count-dose : tie.Need-overflow_mul-count-dose invariant-loop decreases-loop
 mul-count-dose c = search rules
 
 element-copy-out-count-dose : tie.Need-element-copy-out-count-dose invariant-loop decreases-loop
 element-copy-out-count-dose c = search rules
 
-mul-count-dose-2 : tie.Need-overflow-mul-count-dose-2 invariant-loop decreases-loop
+mul-count-dose-2 : tie.Need-overflow_mul-count-dose-2 invariant-loop decreases-loop
 mul-count-dose-2 c = search rules
 
 element-copy-out-count-dose-2 : tie.Need-element-copy-out-count-dose-2 invariant-loop decreases-loop
@@ -88,7 +88,7 @@ count-dose-requires c κs =
     let so = c.before.before.before.before.before.loop.invariant.1 in
     (so.size, omega arith, λ j l. omega (arith, so.few j l))
 
-add-k-2 : tie.Need-overflow-add-k-2 invariant-loop decreases-loop
+add-k-2 : tie.Need-overflow_add-k-2 invariant-loop decreases-loop
 add-k-2 c = search rules
 
 loop-less-2 : tie.Need-loop-smaller-2 invariant-loop decreases-loop
@@ -120,8 +120,8 @@ returns c =
       omega (arith, so.few j l),
     )
 
-pub active-row-spec : {M : Type 1} → statement M
-active-row-spec =
+pub active_row_spec : {M : Type 1} → statement M
+active_row_spec =
     tie.close
     (tie.spec
     invariant-loop

@@ -32,16 +32,16 @@ decreases-loop before release deadline instants intervals j₀ counts j = interv
 loop-holds : tie.Need-loop-init invariant-loop decreases-loop
 loop-holds c = (omega arith, record { size = c.requires.0; passed = λ m h. absurd (omega arith); ahead = λ m h. refl })
 
-mul-both : tie.Need-overflow-mul-both invariant-loop decreases-loop
+mul-both : tie.Need-overflow_mul-both invariant-loop decreases-loop
 mul-both c = search rules
 
 element-copy-out-both : tie.Need-element-copy-out-both invariant-loop decreases-loop
 element-copy-out-both c = search rules
 
-add-both : tie.Need-overflow-add-both invariant-loop decreases-loop
+add-both : tie.Need-overflow_add-both invariant-loop decreases-loop
 add-both c = search rules
 
-mul-both-2 : tie.Need-overflow-mul-both-2 invariant-loop decreases-loop
+mul-both-2 : tie.Need-overflow_mul-both-2 invariant-loop decreases-loop
 mul-both-2 c = search rules
 
 element-copy-out-both-2 : tie.Need-element-copy-out-both-2 invariant-loop decreases-loop
@@ -50,7 +50,7 @@ element-copy-out-both-2 c = search rules
 both-requires : tie.Need-both-requires invariant-loop decreases-loop
 both-requires c κs = search rules
 
-mul-counts : tie.Need-overflow-mul-counts invariant-loop decreases-loop
+mul-counts : tie.Need-overflow_mul-counts invariant-loop decreases-loop
 mul-counts c = search rules
 
 element-copy-out-counts : tie.Need-element-copy-out-counts invariant-loop decreases-loop
@@ -60,19 +60,19 @@ on-requires : tie.Need-on-requires invariant-loop decreases-loop
 on-requires c κs = search rules
 
 -- the count read is still that before the loop, below 24
-add-counts : tie.Need-overflow-add-counts invariant-loop decreases-loop
+add-counts : tie.Need-overflow_add-counts invariant-loop decreases-loop
 add-counts c =
     let start = c.before.before.before.before.before.before.before in
     let L = c.before.before.before.before.before.before.loop in
     omega (arith, c.on.ensures.1, L.invariant.1.ahead L.j (omega arith), start.requires.2 L.j (omega arith))
 
-mul-counts-2 : tie.Need-overflow-mul-counts-2 invariant-loop decreases-loop
+mul-counts-2 : tie.Need-overflow_mul-counts-2 invariant-loop decreases-loop
 mul-counts-2 c = search rules
 
 element-write-counts : tie.Need-element-write-counts invariant-loop decreases-loop
 element-write-counts c = search rules
 
-add-j : tie.Need-overflow-add-j invariant-loop decreases-loop
+add-j : tie.Need-overflow_add-j invariant-loop decreases-loop
 add-j c = search rules
 
 loop-less : tie.Need-loop-smaller invariant-loop decreases-loop
@@ -96,8 +96,8 @@ loop-again c =
 returns : tie.Need-returns invariant-loop decreases-loop
 returns c = let so = c.before.loop.invariant.1 in (so.size, λ j l. so.passed j (omega arith))
 
-pub count-dose-spec : {M : Type 1} → statement M
-count-dose-spec =
+pub count_dose_spec : {M : Type 1} → statement M
+count_dose_spec =
     tie.close
     (tie.spec
     invariant-loop

@@ -20,10 +20,10 @@ decreases-loop instants intervals reserved sum₀ j₀ sum j = intervals - j
 loop-holds : tie.Need-loop-init invariant-loop decreases-loop
 loop-holds c = (omega arith, sum_none _, omega arith)
 
-add_wide : tie.Need-overflow-add-wide invariant-loop decreases-loop
+add_wide : tie.Need-overflow_add-wide invariant-loop decreases-loop
 add_wide c = search rules
 
-mul_wide : tie.Need-overflow-mul-wide invariant-loop decreases-loop
+mul_wide : tie.Need-overflow_mul-wide invariant-loop decreases-loop
 mul_wide c = search rules
 
 element-copy-out-wide : tie.Need-element-copy-out-wide invariant-loop decreases-loop
@@ -32,7 +32,7 @@ element-copy-out-wide c = search rules
 wide-requires : tie.Need-wide-requires invariant-loop decreases-loop
 wide-requires c κs = search rules
 
-mul-wide-2 : tie.Need-overflow-mul-wide-2 invariant-loop decreases-loop
+mul-wide-2 : tie.Need-overflow_mul-wide-2 invariant-loop decreases-loop
 mul-wide-2 c = search rules
 
 element-copy-out-wide-2 : tie.Need-element-copy-out-wide-2 invariant-loop decreases-loop
@@ -44,28 +44,28 @@ wide-requires-2 c κs = search rules
 less-requires : tie.Need-less-requires invariant-loop decreases-loop
 less-requires c κs = search rules
 
-mul-sum : tie.Need-overflow-mul-sum invariant-loop decreases-loop
+mul-sum : tie.Need-overflow_mul-sum invariant-loop decreases-loop
 mul-sum c = search rules
 
 array-read-sum : tie.Need-array-read-sum invariant-loop decreases-loop
 array-read-sum c = search rules
 
 -- 24 fans over a length of 32 bits
-mul-sum-2 : tie.Need-overflow-mul-sum-2 invariant-loop decreases-loop
+mul-sum-2 : tie.Need-overflow_mul-sum-2 invariant-loop decreases-loop
 mul-sum-2 c =
     let start = c.before.before.before.before.before.before.before in
     let L = c.before.before.before.before.before.before.loop in
     let most = fan_seconds c.less.result (get_or start.args.t3 L.j 0) (omega (arith, c.less.ensures, c.before.before.before.wide.ensures.1)) (start.requires.1 L.j) in
     omega arith
 
-add-sum : tie.Need-overflow-add-sum invariant-loop decreases-loop
+add-sum : tie.Need-overflow_add-sum invariant-loop decreases-loop
 add-sum c =
     let start = c.before.before.before.before.before.before.before in
     let L = c.before.before.before.before.before.before.loop in
     let most = fan_seconds c.less.result (get_or start.args.t3 L.j 0) (omega (arith, c.less.ensures, c.before.before.before.wide.ensures.1)) (start.requires.1 L.j) in
     omega (arith, L.invariant.2)
 
-add-j : tie.Need-overflow-add-j invariant-loop decreases-loop
+add-j : tie.Need-overflow_add-j invariant-loop decreases-loop
 add-j c = search rules
 
 loop-less : tie.Need-loop-smaller invariant-loop decreases-loop
@@ -88,8 +88,8 @@ returns c =
     let L = c.before.loop in
     at_end (λ (j : ℕ). L.sum ≡ sets.sum j (λ i. len_of A.instants.now i * get_or A.t3 i 0)) (omega arith) L.invariant.1
 
-pub fan-time-spec : {M : Type 1} → statement M
-fan-time-spec =
+pub fan_time_spec : {M : Type 1} → statement M
+fan_time_spec =
     tie.close
     (tie.spec
     invariant-loop

@@ -26,7 +26,7 @@ decreases-loop doses numbers sum₀ bit₀ k₀ sum bit k = doses - k
 loop-holds : tie.Need-loop-init invariant-loop decreases-loop
 loop-holds c = (omega arith, record { number = weight_none _ _; next = refl; below = omega arith })
 
-mul-on : tie.Need-overflow-mul-on invariant-loop decreases-loop
+mul-on : tie.Need-overflow_mul-on invariant-loop decreases-loop
 mul-on c = search rules
 
 array-read-on : tie.Need-array-read-on invariant-loop decreases-loop
@@ -35,17 +35,17 @@ array-read-on c = search rules
 on-requires : tie.Need-on-requires invariant-loop decreases-loop
 on-requires c κs = search rules
 
-add-sum : tie.Need-overflow-add-sum invariant-loop decreases-loop
+add-sum : tie.Need-overflow_add-sum invariant-loop decreases-loop
 add-sum c =
     let L = c.before.before.loop in
     omega (arith, c.on.ensures.1, L.invariant.1.next, L.invariant.1.below, bit_most L.k (omega arith))
 
-mul-bit : tie.Need-overflow-mul-bit invariant-loop decreases-loop
+mul-bit : tie.Need-overflow_mul-bit invariant-loop decreases-loop
 mul-bit c =
     let L = c.before.before.loop in
     omega (arith, L.invariant.1.next, bit_most L.k (omega arith))
 
-add-k : tie.Need-overflow-add-k invariant-loop decreases-loop
+add-k : tie.Need-overflow_add-k invariant-loop decreases-loop
 add-k c = search rules
 
 loop-less : tie.Need-loop-smaller invariant-loop decreases-loop
@@ -65,8 +65,8 @@ returns c =
     let L = c.before.loop in
     at_end (λ (k : ℕ). L.sum ≡ weight k (λ i. 2 ^ i) (sets_of numbers 0)) (omega arith) L.invariant.1.number
 
-pub first-set-spec : {M : Type 1} → statement M
-first-set-spec =
+pub first_set_spec : {M : Type 1} → statement M
+first_set_spec =
     tie.close
     (tie.spec
     invariant-loop

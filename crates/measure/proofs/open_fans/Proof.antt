@@ -30,13 +30,13 @@ active-row-requires c κs = search rules
 loop-holds : tie.Need-loop-init invariant-loop decreases-loop
 loop-holds c = (omega arith, record { size = refl; passed = λ m h. absurd (omega arith); ahead = λ m h. all_same {A = ℕ} most_intervals m 0 })
 
-mul-smaller : tie.Need-overflow-mul-smaller invariant-loop decreases-loop
+mul-smaller : tie.Need-overflow_mul-smaller invariant-loop decreases-loop
 mul-smaller c = search rules
 
 array-read-smaller : tie.Need-array-read-smaller invariant-loop decreases-loop
 array-read-smaller c = search rules
 
-mul-smaller-2 : tie.Need-overflow-mul-smaller-2 invariant-loop decreases-loop
+mul-smaller-2 : tie.Need-overflow_mul-smaller-2 invariant-loop decreases-loop
 mul-smaller-2 c = search rules
 
 array-read-smaller-2 : tie.Need-array-read-smaller-2 invariant-loop decreases-loop
@@ -45,13 +45,13 @@ array-read-smaller-2 c = search rules
 smaller-requires : tie.Need-smaller-requires invariant-loop decreases-loop
 smaller-requires c κs = search rules
 
-mul-reserved : tie.Need-overflow-mul-reserved invariant-loop decreases-loop
+mul-reserved : tie.Need-overflow_mul-reserved invariant-loop decreases-loop
 mul-reserved c = search rules
 
 array-write-reserved : tie.Need-array-write-reserved invariant-loop decreases-loop
 array-write-reserved c = search rules
 
-add-j : tie.Need-overflow-add-j invariant-loop decreases-loop
+add-j : tie.Need-overflow_add-j invariant-loop decreases-loop
 add-j c = search rules
 
 loop-less : tie.Need-loop-smaller invariant-loop decreases-loop
@@ -83,8 +83,8 @@ returns c =
       small = λ j. below_or j A.intervals (λ l. omega (arith, so.passed j (omega arith), (counted j l).1)) (λ g. omega (arith, so.ahead j (omega arith)));
     }
 
-pub open-fans-spec : {M : Type 1} → statement M
-open-fans-spec =
+pub open_fans_spec : {M : Type 1} → statement M
+open_fans_spec =
     tie.close
     (tie.spec
     invariant-loop

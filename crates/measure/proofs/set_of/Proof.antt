@@ -20,7 +20,7 @@ decreases-loop numbers i set₀ k₀ set k = most_doses - k
 loop-holds : tie.Need-loop-init invariant-loop decreases-loop
 loop-holds c = done_none refl
 
-mul-index : tie.Need-overflow-mul-index invariant-loop decreases-loop
+mul-index : tie.Need-overflow_mul-index invariant-loop decreases-loop
 mul-index c = search rules
 
 element-copy-out-index : tie.Need-element-copy-out-index invariant-loop decreases-loop
@@ -29,13 +29,13 @@ element-copy-out-index c = search rules
 index-requires : tie.Need-index-requires invariant-loop decreases-loop
 index-requires c κs = search rules
 
-add-set : tie.Need-overflow-add-set invariant-loop decreases-loop
+add-set : tie.Need-overflow_add-set invariant-loop decreases-loop
 add-set c = search rules
 
 array-write-set : tie.Need-array-write-set invariant-loop decreases-loop
 array-write-set c = search rules
 
-add-k : tie.Need-overflow-add-k invariant-loop decreases-loop
+add-k : tie.Need-overflow_add-k invariant-loop decreases-loop
 add-k c = search rules
 
 loop-less : tie.Need-loop-smaller invariant-loop decreases-loop
@@ -48,8 +48,8 @@ loop-again c = done_next c.before.before.before.loop.invariant (omega arith) (ap
 returns : tie.Need-returns invariant-loop decreases-loop
 returns c = done_all c.before.loop.invariant (omega arith)
 
-pub set-of-spec : {M : Type 1} → statement M
-set-of-spec =
+pub set_of_spec : {M : Type 1} → statement M
+set_of_spec =
     tie.close
     (tie.spec
     invariant-loop

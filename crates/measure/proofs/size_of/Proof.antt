@@ -24,14 +24,14 @@ array-read-on c = search rules
 on-requires : tie.Need-on-requires invariant-loop decreases-loop
 on-requires c κs = search rules
 
-add-sum : tie.Need-overflow-add-sum invariant-loop decreases-loop
+add-sum : tie.Need-overflow_add-sum invariant-loop decreases-loop
 add-sum c =
     let A = c.before.before.before.args in
     let L = c.before.before.loop in
     let w = weight_step 1 L.k L.sum c.on.result (λ i. 1) (set_of A.t2) L.invariant.1 L.invariant.2 c.on.ensures.0 (omega arith) in
     omega (arith, w.1)
 
-add-k : tie.Need-overflow-add-k invariant-loop decreases-loop
+add-k : tie.Need-overflow_add-k invariant-loop decreases-loop
 add-k c = search rules
 
 loop-less : tie.Need-loop-smaller invariant-loop decreases-loop
@@ -50,8 +50,8 @@ returns c =
     let e : L.k ≡ c.before.before.args.doses = omega arith in
     (rw e at L.invariant.1, omega (arith, L.invariant.2))
 
-pub size-of-spec : {M : Type 1} → statement M
-size-of-spec =
+pub size_of_spec : {M : Type 1} → statement M
+size_of_spec =
     tie.close
     (tie.spec
     invariant-loop

@@ -23,7 +23,7 @@ loop-holds c = (omega arith, weight_none _ _, omega arith)
 array-read-on : tie.Need-array-read-on invariant-loop decreases-loop
 array-read-on c = search rules
 
-mul_wide : tie.Need-overflow-mul-wide invariant-loop decreases-loop
+mul_wide : tie.Need-overflow_mul-wide invariant-loop decreases-loop
 mul_wide c = search rules
 
 element-copy-out-wide : tie.Need-element-copy-out-wide invariant-loop decreases-loop
@@ -35,10 +35,10 @@ wide-requires c κs = search rules
 on-requires : tie.Need-on-requires invariant-loop decreases-loop
 on-requires c κs = search rules
 
-add-sum : tie.Need-overflow-add-sum invariant-loop decreases-loop
+add-sum : tie.Need-overflow_add-sum invariant-loop decreases-loop
 add-sum c = omega (arith, c.on.ensures.1, c.before.wide.ensures.1, c.before.before.before.before.loop.invariant.2)
 
-add-k : tie.Need-overflow-add-k invariant-loop decreases-loop
+add-k : tie.Need-overflow_add-k invariant-loop decreases-loop
 add-k c = search rules
 
 loop-less : tie.Need-loop-smaller invariant-loop decreases-loop
@@ -59,8 +59,8 @@ returns c =
     let L = c.before.loop in
     at_end (λ (k : ℕ). L.sum ≡ weight k (λ i. get_or A.grams.now i 0) (set_of A.t3)) (omega arith) L.invariant.1
 
-pub weight-of-spec : {M : Type 1} → statement M
-weight-of-spec =
+pub weight_of_spec : {M : Type 1} → statement M
+weight_of_spec =
     tie.close
     (tie.spec
     invariant-loop

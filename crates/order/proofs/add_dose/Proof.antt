@@ -11,7 +11,7 @@ with-dose-requires c κs = search rules
 with-place-requires : tie.Need-with-place-requires
 with-place-requires c κs = search rules
 
-add-t8 : tie.Need-overflow-add-t8
+add-t8 : tie.Need-overflow_add-t8
 add-t8 c = search rules
 
 returns : tie.Need-returns
@@ -25,5 +25,5 @@ returns c =
       order = c.before.before.before.with-dose.ensures i;
     }
 
-pub add-dose-spec : {M : Type 1} → statement M
-add-dose-spec = tie.close (tie.spec with-dose-requires with-place-requires add-t8 returns)
+pub add_dose_spec : {M : Type 1} → statement M
+add_dose_spec = tie.close (tie.spec with-dose-requires with-place-requires add-t8 returns)

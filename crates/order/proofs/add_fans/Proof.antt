@@ -7,12 +7,12 @@ use Rattle.order.proofs.add_fans.Tie as tie
 rest-by-requires : tie.Need-rest-by-requires
 rest-by-requires c κs = search rules
 
-add-t5 : tie.Need-overflow-add-t5
+add-t5 : tie.Need-overflow_add-t5
 add-t5 c = search rules
 
 returns : tie.Need-returns
 unfolding with_fans
 returns c = rw c.before.before.rest-by.ensures
 
-pub add-fans-spec : {M : Type 1} → statement M
-add-fans-spec = tie.close (tie.spec rest-by-requires add-t5 returns)
+pub add_fans_spec : {M : Type 1} → statement M
+add_fans_spec = tie.close (tie.spec rest-by-requires add-t5 returns)

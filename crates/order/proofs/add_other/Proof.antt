@@ -19,6 +19,6 @@ add-fans-requires c κs = search rules
 returns-2 : tie.Need-returns-2
 returns-2 c = some_fans _ c.add-fans.ensures c.before.before.e.given.1
 
-pub add-other-spec : {M : Type 1} → statement M
-add-other-spec =
+pub add_other_spec : {M : Type 1} → statement M
+add_other_spec =
     tie.close (tie.spec enum-known-e refused-walk-requires returns add-fans-requires returns-2)

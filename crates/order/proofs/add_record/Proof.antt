@@ -24,8 +24,8 @@ add-dose-requires c κs = search rules
 returns-2 : tie.Need-returns-2
 returns-2 c = some_dose _ _ c.add-dose.ensures c.before.before.e.given.1 ∙ ap (taken _ _) c.before.before.before.before.record-at.ensures
 
-pub add-record-spec : {M : Type 1} → statement M
-add-record-spec =
+pub add_record_spec : {M : Type 1} → statement M
+add_record_spec =
     tie.close
     (tie.spec
     record-at-requires

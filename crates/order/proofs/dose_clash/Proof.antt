@@ -15,7 +15,7 @@ returns c = and_off _ (sym (ne_eqb _ _ c.if1.true))
 rested-requires : tie.Need-rested-requires
 rested-requires c κs = search rules
 
-cast-if2 : tie.Need-overflow-cast-if2
+cast-if2 : tie.Need-overflow_cast-if2
 cast-if2 c = search rules
 
 returns-2 : tie.Need-returns-2
@@ -24,7 +24,7 @@ returns-2 c =
     let apart : A.x.deadline + A.rest ≤ A.y.release = omega arith in
     and_on (sym (eq-eqb _ _ c.before.before.before.if1.false)) (simp (le-leb _ _ apart))
 
-cast-result : tie.Need-overflow-cast-result
+cast-result : tie.Need-overflow_cast-result
 cast-result c = search rules
 
 rested-requires-2 : tie.Need-rested-requires-2
@@ -37,7 +37,7 @@ returns-3 c =
     and_on (sym (eq-eqb _ _ c.before.before.before.before.before.if1.false))
     (simp (lt-leb _ _ meets) (ap (ltb A.x.release) c.rested2.ensures ∙ ltb_not A.x.release (A.y.deadline + A.rest)))
 
-pub dose-clash-spec : {M : Type 1} → statement M
-dose-clash-spec =
+pub dose_clash_spec : {M : Type 1} → statement M
+dose_clash_spec =
     tie.close
     (tie.spec returns rested-requires cast-if2 returns-2 cast-result rested-requires-2 returns-3)

@@ -46,7 +46,7 @@ returns c =
     let e = of-arrays A.rest A.o A.k L.j L.invariant.0 c.before.before.dose-at2.ensures c.before.dose-clash.ensures in
     sym (first_stop (doses_clash A.rest A.o A.k) L.j (A.k - L.j) (omega arith) (e ∙ c.if1.true)) ∙ L.invariant.2
 
-add-j : tie.Need-overflow-add-j invariant-loop decreases-loop
+add-j : tie.Need-overflow_add-j invariant-loop decreases-loop
 add-j c = omega arith
 
 loop-less : tie.Need-loop-smaller invariant-loop decreases-loop
@@ -67,8 +67,8 @@ returns-2 c =
     let end : A.k ≡ L.j = omega arith in
     end ∙ sym (first_none (doses_clash A.rest A.o A.k) L.j (A.k - L.j) (omega arith)) ∙ L.invariant.2
 
-pub earlier-clash-spec : {M : Type 1} → statement M
-earlier-clash-spec =
+pub earlier_clash_spec : {M : Type 1} → statement M
+earlier_clash_spec =
     tie.close
     (tie.spec
     invariant-loop

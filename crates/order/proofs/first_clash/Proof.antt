@@ -29,7 +29,7 @@ returns c =
     let e = ap (λ (j : ℕ). ltb j L.k) (sym c.before.earlier-clash.ensures) ∙ lt-ltb _ _ c.if1.true in
     sym (first_stop (clashes_earlier A.rest A.o) L.k (A.o.count - L.k) (omega arith) e) ∙ L.invariant.2
 
-add-k : tie.Need-overflow-add-k invariant-loop decreases-loop
+add-k : tie.Need-overflow_add-k invariant-loop decreases-loop
 add-k c = omega arith
 
 loop-less : tie.Need-loop-smaller invariant-loop decreases-loop
@@ -50,8 +50,8 @@ returns-2 c =
     let end : A.o.count ≡ L.k = omega arith in
     end ∙ sym (first_none (clashes_earlier A.rest A.o) L.k (A.o.count - L.k) (omega arith)) ∙ L.invariant.2
 
-pub first-clash-spec : {M : Type 1} → statement M
-first-clash-spec =
+pub first_clash_spec : {M : Type 1} → statement M
+first_clash_spec =
     tie.close
     (tie.spec
     invariant-loop

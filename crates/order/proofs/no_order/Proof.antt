@@ -8,5 +8,5 @@ returns : tie.Need-returns
 unfolding held_order column
 returns c = refl
 
-pub no-order-spec : {M : Type 1} → statement M
-no-order-spec = tie.close (tie.spec returns)
+pub no_order_spec : {M : Type 1} → statement M
+no_order_spec = tie.close (tie.spec returns)

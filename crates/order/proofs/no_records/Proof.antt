@@ -12,5 +12,5 @@ returns : tie.Need-returns
 unfolding no_records column
 returns c = rw c.no-order.ensures
 
-pub no-records-spec : {M : Type 1} → statement M
-no-records-spec = tie.close (tie.spec no-order-requires returns)
+pub no_records_spec : {M : Type 1} → statement M
+no_records_spec = tie.close (tie.spec no-order-requires returns)

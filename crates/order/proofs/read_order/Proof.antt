@@ -52,8 +52,8 @@ returns-4 c =
     (at_on held_reading _ _ (and_on (sym (eq-eqb _ _ fits.before.if1.false)) (sym (le-leb _ _ fits.if2.false)))
     (c.settle.ensures ∙ walk_settled _ (each_from _ _ 0 _) walked.walk.ensures test.if3.false))
 
-pub read-order-spec : {M : Type 1} → statement M
-read-order-spec =
+pub read_order_spec : {M : Type 1} → statement M
+read_order_spec =
     tie.close
     (tie.spec
     refuse-requires

@@ -9,5 +9,5 @@ no-order-requires c κs = search rules
 returns : tie.Need-returns
 returns c = cc
 
-pub refuse-spec : {M : Type 1} → statement M
-refuse-spec = tie.close (tie.spec no-order-requires returns)
+pub refuse_spec : {M : Type 1} → statement M
+refuse_spec = tie.close (tie.spec no-order-requires returns)

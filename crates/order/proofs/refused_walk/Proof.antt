@@ -16,5 +16,5 @@ returns c = no_refusal _ c.before.no-records.ensures c.match.keys2
 returns-2 : tie.Need-returns-2
 returns-2 c = refusal c.before.before.before.no-records.ensures c.before.e.given.1
 
-pub refused-walk-spec : {M : Type 1} → statement M
-refused-walk-spec = tie.close (tie.spec no-records-requires enum-known-e returns returns-2)
+pub refused_walk_spec : {M : Type 1} → statement M
+refused_walk_spec = tie.close (tie.spec no-records-requires enum-known-e returns returns-2)

@@ -62,8 +62,8 @@ returns-4 c =
     (first-by-rest b.before.before.before.before.args.t1 b.first_clash_lem.ensures
     (at_off (λ (r : Reading). r) _ _ (sym (le-ltb _ _ c.if3.false)) refl)))
 
-pub settle-spec : {M : Type 1} → statement M
-settle-spec =
+pub settle_spec : {M : Type 1} → statement M
+settle_spec =
     tie.close
     (tie.spec
     refuse-requires

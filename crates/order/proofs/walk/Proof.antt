@@ -20,13 +20,13 @@ no-records-requires c κs = tt
 loop-holds : tie.Need-loop-init invariant-loop decreases-loop
 loop-holds c = walking_none refl c.no-records.ensures
 
-mul-a : tie.Need-overflow-mul-a invariant-loop decreases-loop
+mul-a : tie.Need-overflow_mul-a invariant-loop decreases-loop
 mul-a c = omega arith
 
-add-e : tie.Need-overflow-add-e invariant-loop decreases-loop
+add-e : tie.Need-overflow_add-e invariant-loop decreases-loop
 add-e c = omega arith
 
-sub-add-record : tie.Need-overflow-sub-add-record invariant-loop decreases-loop
+sub-add-record : tie.Need-overflow_sub-add-record invariant-loop decreases-loop
 sub-add-record c = omega arith
 
 part-add-record-start : tie.Need-slice-bounds-add-record-start invariant-loop decreases-loop
@@ -47,7 +47,7 @@ returns c =
     let test = took.before.before in
     walking_stops test.before.loop.invariant test.loop-test.true took.add-record.ensures c.if1.true
 
-add-k : tie.Need-overflow-add-k invariant-loop decreases-loop
+add-k : tie.Need-overflow_add-k invariant-loop decreases-loop
 add-k c = omega arith
 
 loop-less : tie.Need-loop-smaller invariant-loop decreases-loop
@@ -62,8 +62,8 @@ loop-again c =
 returns-2 : tie.Need-returns-2 invariant-loop decreases-loop
 returns-2 c = walking_ends c.before.loop.invariant (omega arith)
 
-pub walk-spec : {M : Type 1} → statement M
-walk-spec =
+pub walk_spec : {M : Type 1} → statement M
+walk_spec =
     tie.close
     (tie.spec
     invariant-loop

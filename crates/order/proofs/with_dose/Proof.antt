@@ -9,28 +9,28 @@ returns : tie.Need-returns
 unfolding with_dose
 returns c = simp (le-leb _ _ c.if1.true)
 
-add-n : tie.Need-overflow-add-n
+add-n : tie.Need-overflow_add-n
 add-n c = search rules
 
-mul-n : tie.Need-overflow-mul-n
+mul-n : tie.Need-overflow_mul-n
 mul-n c = search rules
 
 element-write-n : tie.Need-element-write-n
 element-write-n c = search rules
 
-mul-n-2 : tie.Need-overflow-mul-n-2
+mul-n-2 : tie.Need-overflow_mul-n-2
 mul-n-2 c = search rules
 
 element-write-n-2 : tie.Need-element-write-n-2
 element-write-n-2 c = search rules
 
-mul-n-3 : tie.Need-overflow-mul-n-3
+mul-n-3 : tie.Need-overflow_mul-n-3
 mul-n-3 c = search rules
 
 element-write-n-3 : tie.Need-element-write-n-3
 element-write-n-3 c = search rules
 
-mul-n-4 : tie.Need-overflow-mul-n-4
+mul-n-4 : tie.Need-overflow_mul-n-4
 mul-n-4 c = search rules
 
 element-write-n-4 : tie.Need-element-write-n-4
@@ -40,8 +40,8 @@ returns-2 : tie.Need-returns-2
 unfolding with_dose
 returns-2 c = simp (lt-leb _ _ c.if1.false)
 
-pub with-dose-spec : {M : Type 1} → statement M
-with-dose-spec =
+pub with_dose_spec : {M : Type 1} → statement M
+with_dose_spec =
     tie.close
     (tie.spec
     returns

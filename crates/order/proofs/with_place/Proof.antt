@@ -9,7 +9,7 @@ returns : tie.Need-returns
 unfolding with_place
 returns c = simp (le-leb _ _ c.if1.true)
 
-cast-n : tie.Need-overflow-cast-n
+cast-n : tie.Need-overflow_cast-n
 cast-n c = search rules
 
 array-write-n : tie.Need-array-write-n
@@ -19,5 +19,5 @@ returns-2 : tie.Need-returns-2
 unfolding with_place
 returns-2 c = simp (lt-leb _ _ c.if1.false)
 
-pub with-place-spec : {M : Type 1} → statement M
-with-place-spec = tie.close (tie.spec returns cast-n array-write-n returns-2)
+pub with_place_spec : {M : Type 1} → statement M
+with_place_spec = tie.close (tie.spec returns cast-n array-write-n returns-2)

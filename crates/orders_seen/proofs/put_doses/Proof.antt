@@ -15,19 +15,19 @@ decreases-loop b₀ n k₀ bay₀ b k bay = n - k
 loop-holds : tie.Need-loop-init invariant-loop decreases-loop
 loop-holds c = search rules
 
-mul-put-dose : tie.Need-overflow-mul-put-dose invariant-loop decreases-loop
+mul-put-dose : tie.Need-overflow_mul-put-dose invariant-loop decreases-loop
 mul-put-dose c = search rules
 
-add-put-dose : tie.Need-overflow-add-put-dose invariant-loop decreases-loop
+add-put-dose : tie.Need-overflow_add-put-dose invariant-loop decreases-loop
 add-put-dose c = search rules
 
 put-dose-requires : tie.Need-put-dose-requires invariant-loop decreases-loop
 put-dose-requires c κs = search rules
 
-add-k : tie.Need-overflow-add-k invariant-loop decreases-loop
+add-k : tie.Need-overflow_add-k invariant-loop decreases-loop
 add-k c = search rules
 
-add-bay : tie.Need-overflow-add-bay invariant-loop decreases-loop
+add-bay : tie.Need-overflow_add-bay invariant-loop decreases-loop
 add-bay c = search rules
 
 loop-less : tie.Need-loop-smaller invariant-loop decreases-loop
@@ -42,8 +42,8 @@ same_length c = search rules
 returns : tie.Need-returns invariant-loop decreases-loop
 returns c = search rules
 
-pub put-doses-spec : {M : Type 1} → statement M
-put-doses-spec =
+pub put_doses_spec : {M : Type 1} → statement M
+put_doses_spec =
     tie.close
     (tie.spec
     invariant-loop

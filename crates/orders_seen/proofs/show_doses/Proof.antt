@@ -17,7 +17,7 @@ loop-holds c = search rules
 show-dose-requires : tie.Need-show-dose-requires invariant-loop decreases-loop
 show-dose-requires c κs = search rules
 
-add-k : tie.Need-overflow-add-k invariant-loop decreases-loop
+add-k : tie.Need-overflow_add-k invariant-loop decreases-loop
 add-k c = search rules
 
 loop-less : tie.Need-loop-smaller invariant-loop decreases-loop
@@ -29,7 +29,7 @@ loop-again c = search rules
 returns : tie.Need-returns invariant-loop decreases-loop
 returns c = search rules
 
-pub show-doses-spec : {M : Type 1} → statement M
-show-doses-spec =
+pub show_doses_spec : {M : Type 1} → statement M
+show_doses_spec =
     tie.close
     (tie.spec invariant-loop decreases-loop loop-holds show-dose-requires add-k loop-less loop-again returns)

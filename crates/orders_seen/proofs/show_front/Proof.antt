@@ -17,5 +17,5 @@ returns c = search rules
 returns-2 : tie.Need-returns-2
 returns-2 c = search rules
 
-pub show-front-spec : {M : Type 1} → statement M
-show-front-spec = tie.close (tie.spec slice-aggregate-show show-requires returns returns-2)
+pub show_front_spec : {M : Type 1} → statement M
+show_front_spec = tie.close (tie.spec slice-aggregate-show show-requires returns returns-2)

@@ -23,7 +23,7 @@ span-requires c κs = search rules
 number-requires : tie.Need-number-requires invariant-loop decreases-loop
 number-requires c κs = search rules
 
-add-j : tie.Need-overflow-add-j invariant-loop decreases-loop
+add-j : tie.Need-overflow_add-j invariant-loop decreases-loop
 add-j c = search rules
 
 loop-less : tie.Need-loop-smaller invariant-loop decreases-loop
@@ -35,8 +35,8 @@ loop-again c = search rules
 returns : tie.Need-returns invariant-loop decreases-loop
 returns c = search rules
 
-pub show-spans-spec : {M : Type 1} → statement M
-show-spans-spec =
+pub show_spans_spec : {M : Type 1} → statement M
+show_spans_spec =
     tie.close
     (tie.spec
     invariant-loop

@@ -20,7 +20,7 @@ spoilt-fans-requires c κs = search rules
 spoilt-dose-requires : tie.Need-spoilt-dose-requires invariant-loop decreases-loop
 spoilt-dose-requires c κs = search rules
 
-add-i : tie.Need-overflow-add-i invariant-loop decreases-loop
+add-i : tie.Need-overflow_add-i invariant-loop decreases-loop
 add-i c = search rules
 
 loop-less : tie.Need-loop-smaller invariant-loop decreases-loop
@@ -32,8 +32,8 @@ loop-again c = search rules
 returns : tie.Need-returns invariant-loop decreases-loop
 returns c = search rules
 
-pub spoilt-spec : {M : Type 1} → statement M
-spoilt-spec =
+pub spoilt_spec : {M : Type 1} → statement M
+spoilt_spec =
     tie.close
     (tie.spec
     invariant-loop

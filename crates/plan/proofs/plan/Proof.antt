@@ -53,8 +53,8 @@ returns-3 c =
     let roomy = reading.before.before.before in
     nine_or_done _ _ roomy.if1.false (order_is reading) planned.plan-order.ensures
 
-pub plan-spec : {M : Type 1} → statement M
-plan-spec =
+pub plan_spec : {M : Type 1} → statement M
+plan_spec =
     tie.close
     (tie.spec
     refused-requires

@@ -29,7 +29,7 @@ lay-interval-requires c κs =
     let filled = start.requires.0 in
     (filled, omega arith, room_for filled (omega arith) start.requires.1 (omega arith) turn.loop.invariant.2)
 
-add-j : tie.Need-overflow-add-j invariant-loop decreases-loop
+add-j : tie.Need-overflow_add-j invariant-loop decreases-loop
 add-j c = omega arith
 
 loop-less : tie.Need-loop-smaller invariant-loop decreases-loop
@@ -46,8 +46,8 @@ same_length c = c.before.before.loop.invariant.1
 returns : tie.Need-returns invariant-loop decreases-loop
 returns c = table_all _ _ _ c.before.before.loop.invariant.2 (omega arith)
 
-pub lay-all-spec : {M : Type 1} → statement M
-lay-all-spec =
+pub lay_all_spec : {M : Type 1} → statement M
+lay_all_spec =
     tie.close
     (tie.spec
     invariant-loop

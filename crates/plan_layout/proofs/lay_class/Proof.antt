@@ -18,7 +18,7 @@ decreases-loop b₀ r l shares i j t at₀ a₀ k₀ b at a k = t.doses - k
 loop-holds : tie.Need-loop-init invariant-loop decreases-loop
 loop-holds c = (omega arith, refl, kept_none _ _ _ _)
 
-mul-share-of : tie.Need-overflow-mul-share-of invariant-loop decreases-loop
+mul-share-of : tie.Need-overflow_mul-share-of invariant-loop decreases-loop
 mul-share-of c = omega arith
 
 element-copy-out-share-of : tie.Need-element-copy-out-share-of invariant-loop decreases-loop
@@ -37,7 +37,7 @@ share c =
     let A = turn.before.before.before.args in
     share_is A.t4 A.shares.now A.i turn.loop.k A.j c.share-of.ensures
 
-cast-lay-share : tie.Need-overflow-cast-lay-share invariant-loop decreases-loop
+cast-lay-share : tie.Need-overflow_cast-lay-share invariant-loop decreases-loop
 cast-lay-share c = omega arith
 
 lay-share-requires : tie.Need-lay-share-requires invariant-loop decreases-loop
@@ -46,14 +46,14 @@ lay-share-requires c κs =
     let start = turn.before.before.before in
     room_at _ _ start.requires.0 turn.loop.invariant.2 (omega arith) (omega arith) (share c.before)
 
-add_a : tie.Need-overflow-add-a invariant-loop decreases-loop
+add_a : tie.Need-overflow_add-a invariant-loop decreases-loop
 add_a c =
     let read = c.before.before.before.before in
     let turn = read.before.before.before in
     let start = turn.before.before.before in
     omega (arith, sum_at _ _ start.requires.0 turn.loop.invariant.2 (omega arith) (share read))
 
-add-k : tie.Need-overflow-add-k invariant-loop decreases-loop
+add-k : tie.Need-overflow_add-k invariant-loop decreases-loop
 add-k c = omega arith
 
 loop-less : tie.Need-loop-smaller invariant-loop decreases-loop
@@ -73,8 +73,8 @@ returns c =
     let turn = c.before in
     laid_all _ _ turn.before.before.before.requires.0 turn.loop.invariant.2 (omega arith)
 
-pub lay-class-spec : {M : Type 1} → statement M
-lay-class-spec =
+pub lay_class_spec : {M : Type 1} → statement M
+lay_class_spec =
     tie.close
     (tie.spec
     invariant-loop

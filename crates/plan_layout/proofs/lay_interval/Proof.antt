@@ -45,7 +45,7 @@ lay-class-requires c κs =
       filled.size,
     )
 
-mul-of-byte : tie.Need-overflow-mul-of-byte invariant-loop decreases-loop
+mul-of-byte : tie.Need-overflow_mul-of-byte invariant-loop decreases-loop
 mul-of-byte c = omega (arith, in-arrays c.before.before.before.before.before)
 
 index-1-of-byte : tie.Need-bounds-1-of-byte invariant-loop decreases-loop
@@ -57,13 +57,13 @@ index-2-of-byte c = omega (arith, in-arrays c.before.before.before.before.before
 of-byte-requires : tie.Need-of-byte-requires invariant-loop decreases-loop
 of-byte-requires c κs = tt
 
-add-below : tie.Need-overflow-add-below invariant-loop decreases-loop
+add-below : tie.Need-overflow_add-below invariant-loop decreases-loop
 add-below c =
     let turn = c.before.before.before.before.before.before.before.before.before in
     let start = turn.before.before.before in
     omega (arith, below_at start.requires.0 turn.loop.invariant.2 start.requires.1 (omega arith), c.of-byte.ensures.0)
 
-add-i : tie.Need-overflow-add-i invariant-loop decreases-loop
+add-i : tie.Need-overflow_add-i invariant-loop decreases-loop
 add-i c = omega arith
 
 loop-less : tie.Need-loop-smaller invariant-loop decreases-loop
@@ -82,8 +82,8 @@ same_length c = c.before.before.loop.invariant.1
 returns : tie.Need-returns invariant-loop decreases-loop
 returns c = interval_all _ _ _ c.before.before.loop.invariant.2 (omega arith)
 
-pub lay-interval-spec : {M : Type 1} → statement M
-lay-interval-spec =
+pub lay_interval_spec : {M : Type 1} → statement M
+lay_interval_spec =
     tie.close
     (tie.spec
     invariant-loop

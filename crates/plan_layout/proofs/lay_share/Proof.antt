@@ -22,13 +22,13 @@ numbers : (c : tie.After-struct-known2) →
     Small (as_lane A.l) A.a A.x
 numbers c = small c.before.before.before.before.requires
 
-cast-c : tie.Need-overflow-cast-c
+cast-c : tie.Need-overflow_cast-c
 cast-c c = search rules
 
-cast-c-2 : tie.Need-overflow-cast-c-2
+cast-c-2 : tie.Need-overflow_cast-c-2
 cast-c-2 c = search rules
 
-mul-c : tie.Need-overflow-mul-c
+mul-c : tie.Need-overflow_mul-c
 mul-c c = omega (arith, numbers c)
 
 div-fan : tie.Need-nonzero-div-fan
@@ -37,13 +37,13 @@ div-fan c = search rules
 rem-low : tie.Need-nonzero-rem-low
 rem-low c = search rules
 
-add-if2 : tie.Need-overflow-add-if2
+add-if2 : tie.Need-overflow_add-if2
 add-if2 c = omega (arith, numbers c)
 
-mul-put-slot : tie.Need-overflow-mul-put-slot
+mul-put-slot : tie.Need-overflow_mul-put-slot
 mul-put-slot c = search rules
 
-add-slot-of : tie.Need-overflow-add-slot-of
+add-slot-of : tie.Need-overflow_add-slot-of
 add-slot-of c = omega (arith, numbers c.before.before)
 
 slot-of-requires : tie.Need-slot-of-requires
@@ -58,7 +58,7 @@ put-slot-requires c κs =
     let some = whole.before.before.before in
     room_one some.before.before.requires some.if1.false whole.if2.true
 
-add-result : tie.Need-overflow-add-result
+add-result : tie.Need-overflow_add-result
 add-result c = search rules
 
 same_length : tie.Need-same-length
@@ -81,10 +81,10 @@ room c =
     let some = c.before.before.before in
     room_two some.before.before.requires some.if1.false c.if2.false
 
-add-next : tie.Need-overflow-add-next
+add-next : tie.Need-overflow_add-next
 add-next c = omega (arith, room c)
 
-mul-put-slot-2 : tie.Need-overflow-mul-put-slot-2
+mul-put-slot-2 : tie.Need-overflow_mul-put-slot-2
 mul-put-slot-2 c = search rules
 
 slot-of-requires-2 : tie.Need-slot-of-requires-2
@@ -96,23 +96,23 @@ slot-of-requires-2 c κs =
 put-slot-requires-2 : tie.Need-put-slot-requires-2
 put-slot-requires-2 c κs = omega (arith, room c.before.before)
 
-mul-put-slot-3 : tie.Need-overflow-mul-put-slot-3
+mul-put-slot-3 : tie.Need-overflow_mul-put-slot-3
 mul-put-slot-3 c = search rules
 
-add-put-slot : tie.Need-overflow-add-put-slot
+add-put-slot : tie.Need-overflow_add-put-slot
 add-put-slot c = search rules
 
-add-slot-of-2 : tie.Need-overflow-add-slot-of-2
+add-slot-of-2 : tie.Need-overflow_add-slot-of-2
 add-slot-of-2 c =
     let cut = c.before.before.before.before.before.before in
     omega (arith, numbers cut.before)
 
-add-slot-of-3 : tie.Need-overflow-add-slot-of-3
+add-slot-of-3 : tie.Need-overflow_add-slot-of-3
 add-slot-of-3 c =
     let cut = c.before.before.before.before.before.before in
     omega (arith, numbers cut.before)
 
-sub-slot-of : tie.Need-overflow-sub-slot-of
+sub-slot-of : tie.Need-overflow_sub-slot-of
 sub-slot-of c = search rules
 
 slot-of-requires-3 : tie.Need-slot-of-requires-3
@@ -141,8 +141,8 @@ returns-3 c =
     laid_two (as_lane A.l) A.dose A.a A.x A.r _ some.if1.false cut.if2.false
     slot.slot-of2.ensures second.slot-of3.ensures first.put-slot2.ensures c.before.before.put-slot3.ensures
 
-pub lay-share-spec : {M : Type 1} → statement M
-lay-share-spec =
+pub lay_share_spec : {M : Type 1} → statement M
+lay_share_spec =
     tie.close
     (tie.spec
     returns

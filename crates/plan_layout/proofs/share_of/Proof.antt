@@ -11,16 +11,16 @@ use Rattle.plan_layout.proofs.share_of.Tie as tie
 index-requires : tie.Need-index-requires
 index-requires c κs = search rules
 
-add-if1 : tie.Need-overflow-add-if1
+add-if1 : tie.Need-overflow_add-if1
 add-if1 c = search rules
 
-mul-result : tie.Need-overflow-mul-result
+mul-result : tie.Need-overflow_mul-result
 mul-result c = search rules
 
-add-result : tie.Need-overflow-add-result
+add-result : tie.Need-overflow_add-result
 add-result c = search rules
 
-mul-result-2 : tie.Need-overflow-mul-result-2
+mul-result-2 : tie.Need-overflow_mul-result-2
 mul-result-2 c = search rules
 
 shared-slice-read-result : tie.Need-shared-slice-read-result
@@ -36,8 +36,8 @@ returns-2 c =
     let A = c.before.before.before.args in
     share_other A.class (A.i + 1) (get_or A.shares.now (A.k * most_intervals + A.j) 0) (λ e. c.if1.false (c.before.index.ensures.0 ∙ e))
 
-pub share-of-spec : {M : Type 1} → statement M
-share-of-spec =
+pub share_of_spec : {M : Type 1} → statement M
+share_of_spec =
     tie.close
     (tie.spec
     index-requires

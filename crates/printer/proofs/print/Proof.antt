@@ -26,5 +26,5 @@ returns c =
     c.before.before.before.before.before.before.before.before.before.before.before.before.before.requires.1
     c.before.before.before.put-answer.ensures refl
 
-pub print-spec : {M : Type 1} → statement M
-print-spec = tie.close (tie.spec plan-requires put-answer-requires same_length same-length-2 returns)
+pub print_spec : {M : Type 1} → statement M
+print_spec = tie.close (tie.spec plan-requires put-answer-requires same_length same-length-2 returns)

@@ -53,8 +53,8 @@ returns-3 c = search rules
 returns-4 : tie.Need-returns-4
 returns-4 c = search rules
 
-pub printer-main-spec : {M : Type 1} → statement M
-printer-main-spec =
+pub printer_main_spec : {M : Type 1} → statement M
+printer_main_spec =
     tie.close
     (tie.spec
     slice-aggregate-read-input

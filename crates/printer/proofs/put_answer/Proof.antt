@@ -4,7 +4,7 @@ use borrow.Author.Tests.{eq-eqb, ne_eqb}
 use Rattle.printer.proofs.put_answer.Statement.{statement}
 use Rattle.printer.proofs.put_answer.Tie as tie
 
-cast-print-refusal : tie.Need-overflow-cast-print-refusal
+cast-print-refusal : tie.Need-overflow_cast-print-refusal
 cast-print-refusal c = search rules
 
 print-refusal-requires : tie.Need-print-refusal-requires
@@ -25,8 +25,8 @@ same-length-2 c = search rules
 returns-2 : tie.Need-returns-2
 returns-2 c = rw (eq-eqb _ 0 c.before.before.before.before.if1.false) c.before.before.print-plan.ensures
 
-pub put-answer-spec : {M : Type 1} → statement M
-put-answer-spec =
+pub put_answer_spec : {M : Type 1} → statement M
+put_answer_spec =
     tie.close
     (tie.spec
     cast-print-refusal

@@ -37,7 +37,7 @@ returns-4 c =
     let whole = c.before.before.before in
     added _ (omega arith) whole.before.before.if2.false (sym whole.before.opens.ensures ∙ not-false _ whole.if3.false) c.before.before.season-in.ensures
 
-pub add-up-spec : {M : Type 1} → statement M
-add-up-spec =
+pub add_up_spec : {M : Type 1} → statement M
+add_up_spec =
     tie.close
     (tie.spec refused-requires returns refused-requires-2 returns-2 opens-requires refused-requires-3 returns-3 season-in-requires returns-4)

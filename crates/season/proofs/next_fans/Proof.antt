@@ -30,7 +30,7 @@ returns c =
     let here = begins_is stream L.i c.before.kind_at.result c.before.kind_at.ensures (eq-eqb _ _ c.if1.true) in
     omega (arith, next_here stream L.i (A.n - L.i) here, L.invariant.1)
 
-add-i : tie.Need-overflow-add-i invariant-loop decreases-loop
+add-i : tie.Need-overflow_add-i invariant-loop decreases-loop
 add-i c = search rules
 
 loop-less : tie.Need-loop-smaller invariant-loop decreases-loop
@@ -51,5 +51,5 @@ returns-2 c =
     let A = c.before.before.before.args in
     omega (arith, next_most A.stream.now L.i (A.n - L.i), L.invariant.1)
 
-pub next-fans-spec : {M : Type 1} → statement M
-next-fans-spec = tie.close (tie.spec invariant-loop decreases-loop loop-holds kind-at-requires returns add-i loop-less loop-again returns-2)
+pub next_fans_spec : {M : Type 1} → statement M
+next_fans_spec = tie.close (tie.spec invariant-loop decreases-loop loop-holds kind-at-requires returns add-i loop-less loop-again returns-2)

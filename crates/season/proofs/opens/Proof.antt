@@ -18,5 +18,5 @@ returns-2 c =
     let stream = c.before.before.before.args.stream.now in
     rw (ne_eqb (length stream) 0 c.before.if1.false) (sym (begins_is stream 0 c.kind_at.result c.kind_at.ensures refl))
 
-pub opens-spec : {M : Type 1} → statement M
-opens-spec = tie.close (tie.spec returns kind-at-requires returns-2)
+pub opens_spec : {M : Type 1} → statement M
+opens_spec = tie.close (tie.spec returns kind-at-requires returns-2)

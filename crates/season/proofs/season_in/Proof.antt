@@ -24,7 +24,7 @@ no-orders-requires c κs = tt
 loop-holds : tie.Need-loop-init invariant-loop decreases-loop
 loop-holds c = adding_none c.before.record-count.ensures c.before.before.before.requires.1 c.no-orders.ensures
 
-add-next-fans : tie.Need-overflow-add-next-fans invariant-loop decreases-loop
+add-next-fans : tie.Need-overflow_add-next-fans invariant-loop decreases-loop
 add-next-fans c = search rules
 
 next-fans-requires : tie.Need-next-fans-requires invariant-loop decreases-loop
@@ -41,13 +41,13 @@ next-inside c =
     let most = next_most turn.before.before.before.before.args.stream.now (turn.loop.i + 1) (n - (turn.loop.i + 1)) in
     (omega (arith, c.next-fans.ensures), omega (arith, c.next-fans.ensures, most))
 
-mul-a : tie.Need-overflow-mul-a invariant-loop decreases-loop
+mul-a : tie.Need-overflow_mul-a invariant-loop decreases-loop
 mul-a c = omega (arith, next-inside c)
 
-mul-b : tie.Need-overflow-mul-b invariant-loop decreases-loop
+mul-b : tie.Need-overflow_mul-b invariant-loop decreases-loop
 mul-b c = omega (arith, (next-inside c).1)
 
-sub-order-comes : tie.Need-overflow-sub-order-comes invariant-loop decreases-loop
+sub-order-comes : tie.Need-overflow_sub-order-comes invariant-loop decreases-loop
 sub-order-comes c = omega (arith, (next-inside c).0)
 
 part-order-comes-start : tie.Need-slice-bounds-order-comes-start invariant-loop decreases-loop
@@ -77,8 +77,8 @@ loop-again c =
 returns : tie.Need-returns invariant-loop decreases-loop
 returns c = adding_all c.before.loop.invariant (omega arith)
 
-pub season-in-spec : {M : Type 1} → statement M
-season-in-spec =
+pub season_in_spec : {M : Type 1} → statement M
+season_in_spec =
     tie.close
     (tie.spec
     invariant-loop

@@ -20,5 +20,5 @@ returns c =
     let added = put.before.before in
     prints added.add-up.ensures added.before.before.before.requires put.put-added.ensures refl
 
-pub print-spec : {M : Type 1} → statement M
-print-spec = tie.close (tie.spec add-up-requires put-added-requires same_length returns)
+pub print_spec : {M : Type 1} → statement M
+print_spec = tie.close (tie.spec add-up-requires put-added-requires same_length returns)

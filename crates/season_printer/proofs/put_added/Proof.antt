@@ -4,7 +4,7 @@ use borrow.Author.Rules.{rules}
 use Rattle.season_printer.proofs.put_added.Statement.{statement}
 use Rattle.season_printer.proofs.put_added.Tie as tie
 
-cast-print-refusal : tie.Need-overflow-cast-print-refusal
+cast-print-refusal : tie.Need-overflow_cast-print-refusal
 cast-print-refusal c = search rules
 
 print-refusal-requires : tie.Need-print-refusal-requires
@@ -25,8 +25,8 @@ same-length-2 c = search rules
 returns-2 : tie.Need-returns-2
 returns-2 c = rw (eq-eqb _ 0 c.before.before.before.before.before.if1.false) c.before.before.print-season.ensures
 
-pub put-added-spec : {M : Type 1} → statement M
-put-added-spec =
+pub put_added_spec : {M : Type 1} → statement M
+put_added_spec =
     tie.close
     (tie.spec
     cast-print-refusal

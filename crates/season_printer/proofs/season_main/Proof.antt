@@ -47,8 +47,8 @@ returns-3 c = search rules
 returns-4 : tie.Need-returns-4
 returns-4 c = search rules
 
-pub season-main-spec : {M : Type 1} → statement M
-season-main-spec =
+pub season_main_spec : {M : Type 1} → statement M
+season_main_spec =
     tie.close
     (tie.spec
     stream-buffer-requires

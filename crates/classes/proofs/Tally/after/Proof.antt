@@ -12,34 +12,34 @@ use Rattle.classes.proofs.Tally.after.Tie as tie
 left-of-requires : tie.Need-left-of-requires
 left-of-requires c κs = search rules
 
-cast-number-members : tie.Need-overflow-cast-number-members
+cast-number-members : tie.Need-overflow_cast-number-members
 cast-number-members c = search rules
 
-add-number-members : tie.Need-overflow-add-number-members
+add-number-members : tie.Need-overflow_add-number-members
 add-number-members c = search rules
 
 number-members-requires : tie.Need-number-members-requires
 number-members-requires c κs = search rules
 
-mul-weight : tie.Need-overflow-mul-weight
+mul-weight : tie.Need-overflow_mul-weight
 mul-weight c = search rules
 
 array-write-weight : tie.Need-array-write-weight
 array-write-weight c = search rules
 
-mul-time : tie.Need-overflow-mul-time
+mul-time : tie.Need-overflow_mul-time
 mul-time c = search rules
 
 array-write-time : tie.Need-array-write-time
 array-write-time c = search rules
 
-add-t14 : tie.Need-overflow-add-t14
+add-t14 : tie.Need-overflow_add-t14
 add-t14 c = search rules
 
 size-of-requires : tie.Need-size-of-requires
 size-of-requires c κs = search rules
 
-add-t20 : tie.Need-overflow-add-t20
+add-t20 : tie.Need-overflow_add-t20
 add-t20 c = search rules
 
 -- there is a place for each class
@@ -65,8 +65,8 @@ returns c =
       other_time = λ i d. get_or-set_other t.time t.class i _ 0 d;
     }
 
-pub after-spec : {M : Type 1} → statement M
-after-spec =
+pub after_spec : {M : Type 1} → statement M
+after_spec =
     tie.close
     (tie.spec
     left-of-requires

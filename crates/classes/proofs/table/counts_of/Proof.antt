@@ -18,19 +18,19 @@ decreases-loop reserved counts₀ j₀ counts j = most_intervals - j
 loop-holds : tie.Need-loop-init invariant-loop decreases-loop
 loop-holds c = done_none refl
 
-mul-counts : tie.Need-overflow-mul-counts invariant-loop decreases-loop
+mul-counts : tie.Need-overflow_mul-counts invariant-loop decreases-loop
 mul-counts c = search rules
 
 array-read-counts : tie.Need-array-read-counts invariant-loop decreases-loop
 array-read-counts c = search rules
 
-cast-counts : tie.Need-overflow-cast-counts invariant-loop decreases-loop
+cast-counts : tie.Need-overflow_cast-counts invariant-loop decreases-loop
 cast-counts c = omega (arith, c.before.before.requires c.before.loop.j)
 
 array-write-counts : tie.Need-array-write-counts invariant-loop decreases-loop
 array-write-counts c = search rules
 
-add-j : tie.Need-overflow-add-j invariant-loop decreases-loop
+add-j : tie.Need-overflow_add-j invariant-loop decreases-loop
 add-j c = search rules
 
 loop-less : tie.Need-loop-smaller invariant-loop decreases-loop
@@ -42,8 +42,8 @@ loop-again c = done_next c.before.loop.invariant (omega arith) refl
 returns : tie.Need-returns invariant-loop decreases-loop
 returns c = done_all c.before.loop.invariant (omega arith)
 
-pub counts-of-spec : {M : Type 1} → statement M
-counts-of-spec =
+pub counts_of_spec : {M : Type 1} → statement M
+counts_of_spec =
     tie.close
     (tie.spec
     invariant-loop

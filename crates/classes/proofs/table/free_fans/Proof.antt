@@ -25,13 +25,13 @@ reserved-before-requires c κs = search rules
 less-requires : tie.Need-less-requires invariant-loop decreases-loop
 less-requires c κs = search rules
 
-mul-free : tie.Need-overflow-mul-free invariant-loop decreases-loop
+mul-free : tie.Need-overflow_mul-free invariant-loop decreases-loop
 mul-free c = search rules
 
 array-write-free : tie.Need-array-write-free invariant-loop decreases-loop
 array-write-free c = search rules
 
-add-j : tie.Need-overflow-add-j invariant-loop decreases-loop
+add-j : tie.Need-overflow_add-j invariant-loop decreases-loop
 add-j c = search rules
 
 loop-less : tie.Need-loop-smaller invariant-loop decreases-loop
@@ -45,8 +45,8 @@ loop-again c =
 returns : tie.Need-returns invariant-loop decreases-loop
 returns c = done_all c.before.loop.invariant (omega arith)
 
-pub free-fans-spec : {M : Type 1} → statement M
-free-fans-spec =
+pub free_fans_spec : {M : Type 1} → statement M
+free_fans_spec =
     tie.close
     (tie.spec
     invariant-loop

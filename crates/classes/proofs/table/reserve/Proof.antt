@@ -10,7 +10,7 @@ use Rattle.classes.proofs.table.reserve.Tie as tie
 counts-of-requires : tie.Need-counts-of-requires
 counts-of-requires c κs = search rules
 
-mul-row : tie.Need-overflow-mul-row
+mul-row : tie.Need-overflow_mul-row
 mul-row c = search rules
 
 element-set-from-row : tie.Need-element-set-from-row

@@ -18,7 +18,7 @@ decreases-loop table classes j s₀ i₀ s i = classes - i
 loop-holds : tie.Need-loop-init invariant-loop decreases-loop
 loop-holds c = (omega arith, sum_none _, omega arith)
 
-mul-of-byte : tie.Need-overflow-mul-of-byte invariant-loop decreases-loop
+mul-of-byte : tie.Need-overflow_mul-of-byte invariant-loop decreases-loop
 mul-of-byte c = search rules
 
 index-1-of-byte : tie.Need-bounds-1-of-byte invariant-loop decreases-loop
@@ -44,10 +44,10 @@ more c =
     let loop = c.before.before.before.before.loop in
     sum_step 255 loop.i loop.sum c.wide.result _ loop.invariant.1 loop.invariant.2 (c.wide.ensures.0 ∙ byte.0) (omega (arith, c.wide.ensures.0, byte.1))
 
-add-sum : tie.Need-overflow-add-sum invariant-loop decreases-loop
+add-sum : tie.Need-overflow_add-sum invariant-loop decreases-loop
 add-sum c = omega (arith, (more c).1)
 
-add-i : tie.Need-overflow-add-i invariant-loop decreases-loop
+add-i : tie.Need-overflow_add-i invariant-loop decreases-loop
 add-i c = search rules
 
 loop-less : tie.Need-loop-smaller invariant-loop decreases-loop
@@ -62,8 +62,8 @@ returns c =
     let e : loop.loop.i ≡ loop.before.args.classes = omega arith in
     rw e at loop.loop.invariant.1
 
-pub reserved-before-spec : {M : Type 1} → statement M
-reserved-before-spec =
+pub reserved_before_spec : {M : Type 1} → statement M
+reserved_before_spec =
     tie.close
     (tie.spec
     invariant-loop

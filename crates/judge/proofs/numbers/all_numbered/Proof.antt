@@ -17,7 +17,7 @@ decreases-loop numbers doses p k₀ k = doses - k
 loop-holds : tie.Need-loop-init invariant-loop decreases-loop
 loop-holds c = (omega arith, λ i l. absurd (omega arith))
 
-mul-index : tie.Need-overflow-mul-index invariant-loop decreases-loop
+mul-index : tie.Need-overflow_mul-index invariant-loop decreases-loop
 mul-index c = search rules
 
 element-copy-out-index : tie.Need-element-copy-out-index invariant-loop decreases-loop
@@ -36,7 +36,7 @@ returns-2 c =
     let turn = c.before.before.before.before.before in
     tells_off (λ all. omega (arith, (all turn.loop.k (omega arith)).1))
 
-add-k : tie.Need-overflow-add-k invariant-loop decreases-loop
+add-k : tie.Need-overflow_add-k invariant-loop decreases-loop
 add-k c = search rules
 
 loop-less : tie.Need-loop-smaller invariant-loop decreases-loop
@@ -50,8 +50,8 @@ loop-again c =
 returns-3 : tie.Need-returns-3 invariant-loop decreases-loop
 returns-3 c = tells_on (λ k l. c.before.loop.invariant.1 k (omega arith))
 
-pub all-numbered-spec : {M : Type 1} → statement M
-all-numbered-spec =
+pub all_numbered_spec : {M : Type 1} → statement M
+all_numbered_spec =
     tie.close
     (tie.spec
     invariant-loop

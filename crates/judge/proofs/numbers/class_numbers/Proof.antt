@@ -32,7 +32,7 @@ slot-at-requires c κs = omega arith
 noted-requires : tie.Need-noted-requires invariant-loop decreases-loop
 noted-requires c κs = omega arith
 
-add-i : tie.Need-overflow-add-i invariant-loop decreases-loop
+add-i : tie.Need-overflow_add-i invariant-loop decreases-loop
 add-i c = omega arith
 
 loop-less : tie.Need-loop-smaller invariant-loop decreases-loop
@@ -52,8 +52,8 @@ loop-again c =
 returns : tie.Need-returns invariant-loop decreases-loop
 returns c = numbers_to (omega arith) c.before.loop.invariant.named
 
-pub class-numbers-spec : {M : Type 1} → statement M
-class-numbers-spec =
+pub class_numbers_spec : {M : Type 1} → statement M
+class_numbers_spec =
     tie.close
     (tie.spec
     invariant-loop

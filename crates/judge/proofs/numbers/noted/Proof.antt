@@ -7,7 +7,7 @@ use Rattle.judge.proofs.numbers.noted.Tie as tie
 returns : tie.Need-returns
 returns c = search rules
 
-mul-numbers : tie.Need-overflow-mul-numbers
+mul-numbers : tie.Need-overflow_mul-numbers
 mul-numbers c = search rules
 
 array-write-numbers : tie.Need-array-write-numbers
@@ -18,5 +18,5 @@ returns-2 c =
     let A = c.before.args in
     (λ l. get_or-set_same A.before A.dose A.class 0 (search rules), λ k other. get_or-set_other A.before A.dose k A.class 0 other)
 
-pub noted-spec : {M : Type 1} → statement M
-noted-spec = tie.close (tie.spec returns mul-numbers array-write-numbers returns-2)
+pub noted_spec : {M : Type 1} → statement M
+noted_spec = tie.close (tie.spec returns mul-numbers array-write-numbers returns-2)

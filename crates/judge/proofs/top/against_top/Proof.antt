@@ -50,8 +50,8 @@ returns-3 c =
     leader_fast start.args.o is.Stands start.requires.1 one class.class_at_lem.ensures _ _ _ set.first-set.ensures c.before.wide.ensures.0 c.wide2.ensures.0
     (omega (arith, above.before.excess.ensures, above.if2.false))
 
-pub against-top-spec : {M : Type 1} → statement M
-against-top-spec =
+pub against_top_spec : {M : Type 1} → statement M
+against_top_spec =
     tie.close
     (tie.spec
     returns

@@ -24,5 +24,5 @@ returns c =
 returns-2 : tie.Need-returns-2
 returns-2 c = slow (c.before.too_fast_lem.ensures.slow c.if1.false)
 
-pub fallen-spec : {M : Type 1} → statement M
-fallen-spec = tie.close (tie.spec classes-of-requires too-fast-requires returns returns-2)
+pub fallen_spec : {M : Type 1} → statement M
+fallen_spec = tie.close (tie.spec classes-of-requires too-fast-requires returns returns-2)

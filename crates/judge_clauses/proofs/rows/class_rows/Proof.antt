@@ -25,7 +25,7 @@ returns c =
     let L = c.before.before.before.loop in
     tells_off (λ h. tells_not (tells_class _ _ c.before.is_class_lem.ensures) c.if1.true (h L.i (omega arith)))
 
-add-i : tie.Need-overflow-add-i invariant-loop decreases-loop
+add-i : tie.Need-overflow_add-i invariant-loop decreases-loop
 add-i c = omega arith
 
 loop-less : tie.Need-loop-smaller invariant-loop decreases-loop
@@ -41,8 +41,8 @@ returns-2 c =
     let L = c.before.loop in
     tells_on (λ k l. L.invariant.1 k (omega arith))
 
-pub class-rows-spec : {M : Type 1} → statement M
-class-rows-spec =
+pub class_rows_spec : {M : Type 1} → statement M
+class_rows_spec =
     tie.close
     (tie.spec
     invariant-loop

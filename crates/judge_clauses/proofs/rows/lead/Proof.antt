@@ -30,7 +30,7 @@ returns c =
     let L = c.before.before.before.loop in
     record { short = omega arith; classes = L.invariant.2; stops = λ l e. c.if1.true (c.before.kind_at.ensures ∙ e) }
 
-add-i : tie.Need-overflow-add-i invariant-loop decreases-loop
+add-i : tie.Need-overflow_add-i invariant-loop decreases-loop
 add-i c = omega arith
 
 loop-less : tie.Need-loop-smaller invariant-loop decreases-loop
@@ -46,8 +46,8 @@ returns-2 c =
     let L = c.before.loop in
     record { short = omega arith; classes = λ k l. L.invariant.2 k (omega arith); stops = λ l e. omega arith }
 
-pub lead-spec : {M : Type 1} → statement M
-lead-spec =
+pub lead_spec : {M : Type 1} → statement M
+lead_spec =
     tie.close
     (tie.spec
     invariant-loop

@@ -31,7 +31,7 @@ returns c =
     let L = c.before.before.before.loop in
     tells_off (λ h. tells_not (tells_slot _ _ c.before.is-slot.ensures) c.if1.true (h L.i (omega arith) (omega arith)))
 
-add-i : tie.Need-overflow-add-i invariant-loop decreases-loop
+add-i : tie.Need-overflow_add-i invariant-loop decreases-loop
 add-i c = omega arith
 
 loop-less : tie.Need-loop-smaller invariant-loop decreases-loop
@@ -47,8 +47,8 @@ returns-2 c =
     let L = c.before.loop in
     tells_on (λ k l g. L.invariant.2 k (omega arith) g)
 
-pub slot-rows-spec : {M : Type 1} → statement M
-slot-rows-spec =
+pub slot_rows_spec : {M : Type 1} → statement M
+slot_rows_spec =
     tie.close
     (tie.spec
     invariant-loop

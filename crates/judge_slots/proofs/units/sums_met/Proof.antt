@@ -21,7 +21,7 @@ decreases-loop plan numbers grams doses sums k₀ k = doses - k
 loop-holds : tie.Need-loop-init invariant-loop decreases-loop
 loop-holds c = (omega arith, λ i l. absurd (omega arith))
 
-mul-index : tie.Need-overflow-mul-index invariant-loop decreases-loop
+mul-index : tie.Need-overflow_mul-index invariant-loop decreases-loop
 mul-index c = search rules
 
 element-copy-out-index : tie.Need-element-copy-out-index invariant-loop decreases-loop
@@ -39,19 +39,19 @@ numbered c =
     let start = turn.before.before in
     rw c.index.ensures.0 (start.requires.1 turn.loop.k (omega arith))
 
-sub-class-at : tie.Need-overflow-sub-class-at invariant-loop decreases-loop
+sub-class-at : tie.Need-overflow_sub-class-at invariant-loop decreases-loop
 sub-class-at c = omega (arith, numbered c)
 
 class-at-requires : tie.Need-class-at-requires invariant-loop decreases-loop
 class-at-requires c κs = omega (arith, numbered c)
 
-mul-sum : tie.Need-overflow-mul-sum invariant-loop decreases-loop
+mul-sum : tie.Need-overflow_mul-sum invariant-loop decreases-loop
 mul-sum c = search rules
 
 array-read-sum : tie.Need-array-read-sum invariant-loop decreases-loop
 array-read-sum c = search rules
 
-mul-product : tie.Need-overflow-mul-product invariant-loop decreases-loop
+mul-product : tie.Need-overflow_mul-product invariant-loop decreases-loop
 mul-product c = search rules
 
 element-copy-out-product : tie.Need-element-copy-out-product invariant-loop decreases-loop
@@ -76,7 +76,7 @@ returns c =
     let turn = c.before.before.before.before.before.before.before in
     tells_off (λ met. c.if1.true (met turn.loop.k (omega arith) ∙ sym (need c.before)))
 
-add-k : tie.Need-overflow-add-k invariant-loop decreases-loop
+add-k : tie.Need-overflow_add-k invariant-loop decreases-loop
 add-k c = search rules
 
 loop-less : tie.Need-loop-smaller invariant-loop decreases-loop
@@ -90,8 +90,8 @@ loop-again c =
 returns-2 : tie.Need-returns-2 invariant-loop decreases-loop
 returns-2 c = tells_on (λ k l. c.before.loop.invariant.1 k (omega arith))
 
-pub sums-met-spec : {M : Type 1} → statement M
-sums-met-spec =
+pub sums_met_spec : {M : Type 1} → statement M
+sums_met_spec =
     tie.close
     (tie.spec
     invariant-loop

@@ -36,16 +36,16 @@ counts c =
     let start = turn.before.before in
     rw c.slot_at.ensures (start.requires.3 turn.loop.i (omega arith) turn.loop.invariant.2.from)
 
-cast-k : tie.Need-overflow-cast-k invariant-loop decreases-loop
+cast-k : tie.Need-overflow_cast-k invariant-loop decreases-loop
 cast-k c = search rules
 
-mul-had : tie.Need-overflow-mul-had invariant-loop decreases-loop
+mul-had : tie.Need-overflow_mul-had invariant-loop decreases-loop
 mul-had c = search rules
 
 array-read-had : tie.Need-array-read-had invariant-loop decreases-loop
 array-read-had c = omega (arith, (counts c.before).dose, c.before.before.before.before.before.requires.0)
 
-mul-product : tie.Need-overflow-mul-product invariant-loop decreases-loop
+mul-product : tie.Need-overflow_mul-product invariant-loop decreases-loop
 mul-product c = search rules
 
 element-copy-out-product : tie.Need-element-copy-out-product invariant-loop decreases-loop
@@ -71,10 +71,10 @@ ends-requires c κs = search rules
 starts-requires : tie.Need-starts-requires invariant-loop decreases-loop
 starts-requires c κs = search rules
 
-sub-units : tie.Need-overflow-sub-units invariant-loop decreases-loop
+sub-units : tie.Need-overflow_sub-units invariant-loop decreases-loop
 sub-units c = omega (arith, (read c.before.before).counts.long, c.starts.ensures, c.before.ends.ensures)
 
-sub-if1 : tie.Need-overflow-sub-if1 invariant-loop decreases-loop
+sub-if1 : tie.Need-overflow_sub-if1 invariant-loop decreases-loop
 sub-if1 c = had_fits (read c.before.before)
 
 returns : tie.Need-returns invariant-loop decreases-loop
@@ -84,16 +84,16 @@ returns c =
     let ends = c.before.before.ends.ensures in
     tells_off (over_need (read product) (omega (arith, c.if1.true)) _ (omega arith))
 
-add-sums : tie.Need-overflow-add-sums invariant-loop decreases-loop
+add-sums : tie.Need-overflow_add-sums invariant-loop decreases-loop
 add-sums c = omega (arith, had_fits (read c.before.before.before), c.if1.false)
 
-mul-sums : tie.Need-overflow-mul-sums invariant-loop decreases-loop
+mul-sums : tie.Need-overflow_mul-sums invariant-loop decreases-loop
 mul-sums c = search rules
 
 array-write-sums : tie.Need-array-write-sums invariant-loop decreases-loop
 array-write-sums c = omega (arith, (read c.before.before.before).counts.dose)
 
-add-i : tie.Need-overflow-add-i invariant-loop decreases-loop
+add-i : tie.Need-overflow_add-i invariant-loop decreases-loop
 add-i c = search rules
 
 loop-less : tie.Need-loop-smaller invariant-loop decreases-loop
@@ -116,8 +116,8 @@ sums-met-requires c κs =
 returns-2 : tie.Need-returns-2 invariant-loop decreases-loop
 returns-2 c = tells_summed c.before.before.loop.invariant.2 (omega arith) c.sums-met.ensures
 
-pub units-met-spec : {M : Type 1} → statement M
-units-met-spec =
+pub units_met_spec : {M : Type 1} → statement M
+units_met_spec =
     tie.close
     (tie.spec
     invariant-loop

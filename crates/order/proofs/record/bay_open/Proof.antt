@@ -6,5 +6,5 @@ use Rattle.order.proofs.record.bay_open.Tie as tie
 returns : tie.Need-returns
 returns c = search rules
 
-pub bay-open-spec : {M : Type 1} → statement M
-bay-open-spec = tie.close (tie.spec returns)
+pub bay_open_spec : {M : Type 1} → statement M
+bay_open_spec = tie.close (tie.spec returns)

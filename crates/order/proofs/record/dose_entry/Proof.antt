@@ -43,8 +43,8 @@ returns-2 c =
     let found = fault_of_lem dose_fits (bay_open _) fault.fault.ensures blank.dose-blank.ensures fits.dose_fits_lem.ensures bay.bay-open.ensures blank.before.dose_in_lem.ensures in
     ap (λ (x : Dose). is.Dose (held_dose x)) blank.before.dose_in_lem.ensures ∙ faultless _ _ _ _ _ found c.if1.false
 
-pub dose-entry-spec : {M : Type 1} → statement M
-dose-entry-spec =
+pub dose_entry_spec : {M : Type 1} → statement M
+dose_entry_spec =
     tie.close
     (tie.spec
     dose-in-requires

@@ -15,7 +15,7 @@ returns c = and_off _ (and_off _ (and_off _ (was_off c.before.inside.ensures c.i
 returns-2 : tie.Need-returns-2
 returns-2 c = and_off _ (and_off _ (and_on (was_on c.before.before.before.inside.ensures c.before.before.if1.false) (sym (lt-leb _ _ c.if2.true))))
 
-add-inside : tie.Need-overflow-add-inside
+add-inside : tie.Need-overflow_add-inside
 add-inside c = search rules
 
 inside-requires-2 : tie.Need-inside-requires-2
@@ -44,8 +44,8 @@ returns-4 c =
     (was_on third.before.inside2.ensures third.if3.false))
     c.inside3.ensures
 
-pub dose-fits-spec : {M : Type 1} → statement M
-dose-fits-spec =
+pub dose_fits_spec : {M : Type 1} → statement M
+dose_fits_spec =
     tie.close
     (tie.spec
     inside-requires

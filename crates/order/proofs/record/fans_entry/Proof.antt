@@ -37,8 +37,8 @@ returns-2 c =
     let found = fault_of_lem fans_fit (λ f. true) fault.fault.ensures blank.fans-blank.ensures fault.before.fans_fit_lem.ensures refl blank.before.fans-in.ensures in
     ap (λ (x : Fans). is.Fans (held_fans x)) blank.before.fans-in.ensures ∙ faultless _ _ _ _ _ found c.if1.false
 
-pub fans-entry-spec : {M : Type 1} → statement M
-fans-entry-spec =
+pub fans_entry_spec : {M : Type 1} → statement M
+fans_entry_spec =
     tie.close
     (tie.spec
     fans-in-requires

@@ -29,8 +29,8 @@ returns c =
     let fans = grams.before.before in
     rw (c.both3.ensures, c.before.both2.ensures, first_two.both.ensures, seconds.inside3.ensures, grams.inside2.ensures, fans.inside.ensures)
 
-pub fans-fit-spec : {M : Type 1} → statement M
-fans-fit-spec =
+pub fans_fit_spec : {M : Type 1} → statement M
+fans_fit_spec =
     tie.close
     (tie.spec
     inside-requires

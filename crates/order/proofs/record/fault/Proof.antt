@@ -24,5 +24,5 @@ returns-4 c =
     let A = c.before.before.before.args in
     simp (not-false A.blank c.before.before.if1.false, not-false A.fits c.before.if2.false, not-false A.is_open c.if3.false)
 
-pub fault-spec : {M : Type 1} → statement M
-fault-spec = tie.close (tie.spec returns returns-2 returns-3 returns-4)
+pub fault_spec : {M : Type 1} → statement M
+fault_spec = tie.close (tie.spec returns returns-2 returns-3 returns-4)

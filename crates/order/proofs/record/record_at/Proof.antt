@@ -35,8 +35,8 @@ returns-3 c =
     at_off held_entry _ _ (sym (ne_eqb _ _ (λ e. c.before.if1.false (kind ∙ e))))
     (at_off held_entry _ _ (sym (ne_eqb _ _ (λ e. c.if2.false (kind ∙ e)))) refl)
 
-pub record-at-spec : {M : Type 1} → statement M
-record-at-spec =
+pub record_at_spec : {M : Type 1} → statement M
+record_at_spec =
     tie.close
     (tie.spec
     kind-of-requires

@@ -24,8 +24,8 @@ returns-2 c =
     let slow = c.before.before.before.before in
     slow_enough slow.before.too_fast_lem.ensures slow.if1.false c.before.before.write-order.ensures
 
-pub answer-order-spec : {M : Type 1} → statement M
-answer-order-spec =
+pub answer_order_spec : {M : Type 1} → statement M
+answer_order_spec =
     tie.close
     (tie.spec
     too-fast-requires

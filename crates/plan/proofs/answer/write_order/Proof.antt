@@ -49,8 +49,8 @@ returns c =
     let wrote = c.before.before.before in
     written _ _ _ _ (hold wrote.before) wrote.write-plan.ensures.0 wrote.write-plan.ensures.1 c.finished.ensures
 
-pub write-order-spec : {M : Type 1} → statement M
-write-order-spec =
+pub write_order_spec : {M : Type 1} → statement M
+write_order_spec =
     tie.close
     (tie.spec
     instants-of-requires

@@ -18,22 +18,22 @@ decreases-loop wide numbers₀ i₀ numbers i = most_doses - i
 loop-holds : tie.Need-loop-init invariant-loop decreases-loop
 loop-holds c = (omega arith, refl, λ k l. absurd (omega arith))
 
-mul-numbers : tie.Need-overflow-mul-numbers invariant-loop decreases-loop
+mul-numbers : tie.Need-overflow_mul-numbers invariant-loop decreases-loop
 mul-numbers c = search rules
 
 array-read-numbers : tie.Need-array-read-numbers invariant-loop decreases-loop
 array-read-numbers c = search rules
 
-cast-numbers : tie.Need-overflow-cast-numbers invariant-loop decreases-loop
+cast-numbers : tie.Need-overflow_cast-numbers invariant-loop decreases-loop
 cast-numbers c = search rules
 
-mul-numbers-2 : tie.Need-overflow-mul-numbers-2 invariant-loop decreases-loop
+mul-numbers-2 : tie.Need-overflow_mul-numbers-2 invariant-loop decreases-loop
 mul-numbers-2 c = search rules
 
 array-write-numbers : tie.Need-array-write-numbers invariant-loop decreases-loop
 array-write-numbers c = search rules
 
-add-i : tie.Need-overflow-add-i invariant-loop decreases-loop
+add-i : tie.Need-overflow_add-i invariant-loop decreases-loop
 add-i c = search rules
 
 loop-less : tie.Need-loop-smaller invariant-loop decreases-loop
@@ -48,8 +48,8 @@ loop-again c =
 returns : tie.Need-returns invariant-loop decreases-loop
 returns c = λ i l. c.before.loop.invariant.2 i (omega arith)
 
-pub narrow-spec : {M : Type 1} → statement M
-narrow-spec =
+pub narrow_spec : {M : Type 1} → statement M
+narrow_spec =
     tie.close
     (tie.spec
     invariant-loop

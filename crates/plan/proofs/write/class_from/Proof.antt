@@ -11,25 +11,25 @@ use Rattle.plan.proofs.write.class_from.Tie as tie
 set-of-requires : tie.Need-set-of-requires
 set-of-requires c κs = search rules
 
-cast-t8 : tie.Need-overflow-cast-t8
+cast-t8 : tie.Need-overflow_cast-t8
 cast-t8 c = search rules
 
-add-t9 : tie.Need-overflow-add-t9
+add-t9 : tie.Need-overflow_add-t9
 add-t9 c = search rules
 
 size-of-requires : tie.Need-size-of-requires
 size-of-requires c κs = search rules
 
-cast-t12 : tie.Need-overflow-cast-t12
+cast-t12 : tie.Need-overflow_cast-t12
 cast-t12 c = search rules
 
-mul-t13 : tie.Need-overflow-mul-t13
+mul-t13 : tie.Need-overflow_mul-t13
 mul-t13 c = search rules
 
 element-copy-out-t16 : tie.Need-element-copy-out-t16
 element-copy-out-t16 c = search rules
 
-mul-t17 : tie.Need-overflow-mul-t17
+mul-t17 : tie.Need-overflow_mul-t17
 mul-t17 c = search rules
 
 element-copy-out-t20 : tie.Need-element-copy-out-t20
@@ -44,8 +44,8 @@ returns c =
     let members = weight_alike A.t1.doses (λ k. 1) (set_of marked.result) (members_from A.t1 A.i) (λ k l. marked.ensures k (omega arith)) in
     rw (c.before.before.type_size.ensures.0 ∙ members)
 
-pub class-from-spec : {M : Type 1} → statement M
-class-from-spec =
+pub class_from_spec : {M : Type 1} → statement M
+class_from_spec =
     tie.close
     (tie.spec
     set-of-requires

@@ -22,7 +22,7 @@ decreases-loop b₀ t i₀ b i = t.classes - i
 loop-holds : tie.Need-loop-init invariant-loop decreases-loop
 loop-holds c = (omega arith, refl, classes_none _ _)
 
-mul-put-class : tie.Need-overflow-mul-put-class invariant-loop decreases-loop
+mul-put-class : tie.Need-overflow_mul-put-class invariant-loop decreases-loop
 mul-put-class c = search rules
 
 class-from-requires : tie.Need-class-from-requires invariant-loop decreases-loop
@@ -31,7 +31,7 @@ class-from-requires c κs = search rules
 put-class-requires : tie.Need-put-class-requires invariant-loop decreases-loop
 put-class-requires c κs = search rules
 
-add-i : tie.Need-overflow-add-i invariant-loop decreases-loop
+add-i : tie.Need-overflow_add-i invariant-loop decreases-loop
 add-i c = search rules
 
 loop-less : tie.Need-loop-smaller invariant-loop decreases-loop
@@ -49,8 +49,8 @@ same_length c = c.before.before.loop.invariant.1
 returns : tie.Need-returns invariant-loop decreases-loop
 returns c = classes_all _ c.before.before.loop.invariant.2 (omega arith)
 
-pub put-classes-spec : {M : Type 1} → statement M
-put-classes-spec =
+pub put_classes_spec : {M : Type 1} → statement M
+put_classes_spec =
     tie.close
     (tie.spec
     invariant-loop

@@ -18,7 +18,7 @@ lay-all-requires c κs =
     let wrote = classes.put-classes.ensures in
     (start.requires.0, omega (arith, start.requires.1, classes_next _ wrote, wrote_length wrote))
 
-sub-result : tie.Need-overflow-sub-result
+sub-result : tie.Need-overflow_sub-result
 sub-result c = search rules
 
 same_length : tie.Need-same-length
@@ -34,6 +34,6 @@ returns c =
       plan_written classes.put-classes.ensures slots.lay-all.ensures (omega (arith, start.requires.1, length_singles t.classes (class_from t))),
     )
 
-pub write-plan-spec : {M : Type 1} → statement M
-write-plan-spec =
+pub write_plan_spec : {M : Type 1} → statement M
+write_plan_spec =
     tie.close (tie.spec put-classes-requires lay-all-requires sub-result same_length returns)

@@ -15,7 +15,7 @@ invariant-loop s from count end i₀ i = (from ≤ i) × (i ≤ from + count) ×
 abbrev decreases-loop : tie.decreases-loop
 decreases-loop s from count end i₀ i = from + count - i
 
-add-end : tie.Need-overflow-add-end invariant-loop decreases-loop
+add-end : tie.Need-overflow_add-end invariant-loop decreases-loop
 add-end c = omega arith
 
 loop-holds : tie.Need-loop-init invariant-loop decreases-loop
@@ -27,7 +27,7 @@ shared-slice-read-if1 c = omega arith
 returns : tie.Need-returns invariant-loop decreases-loop
 returns c = sym (blank_stop _ _ _ (omega arith) c.if1.true) ∙ c.before.before.before.loop.invariant.2
 
-add-i : tie.Need-overflow-add-i invariant-loop decreases-loop
+add-i : tie.Need-overflow_add-i invariant-loop decreases-loop
 add-i c = omega arith
 
 loop-less : tie.Need-loop-smaller invariant-loop decreases-loop
@@ -43,8 +43,8 @@ loop-again c =
 returns-2 : tie.Need-returns-2 invariant-loop decreases-loop
 returns-2 c = sym (blank_none _ _ _ (omega arith)) ∙ c.before.loop.invariant.2
 
-pub blank-spec : {M : Type 1} → statement M
-blank-spec =
+pub blank_spec : {M : Type 1} → statement M
+blank_spec =
     tie.close
     (tie.spec
     invariant-loop

@@ -8,16 +8,16 @@ use borrow.Author.Rules.{rules}
 use Rattle.records.proofs.number.put16.Statement.{statement}
 use Rattle.records.proofs.number.put16.Tie as tie
 
-cast-b : tie.Need-overflow-cast-b
+cast-b : tie.Need-overflow_cast-b
 cast-b c = search rules
 
 slice-write-b : tie.Need-slice-write-b
 slice-write-b c = search rules
 
-cast-b-2 : tie.Need-overflow-cast-b-2
+cast-b-2 : tie.Need-overflow_cast-b-2
 cast-b-2 c = search rules
 
-add-b : tie.Need-overflow-add-b
+add-b : tie.Need-overflow_add-b
 add-b c = search rules
 
 slice-write-b-2 : tie.Need-slice-write-b-2
@@ -30,6 +30,6 @@ returns : tie.Need-returns
 unfolding written number_bytes
 returns c = simp add-one
 
-pub put16-spec : {M : Type 1} → statement M
-put16-spec =
+pub put16_spec : {M : Type 1} → statement M
+put16_spec =
     tie.close (tie.spec cast-b slice-write-b cast-b-2 add-b slice-write-b-2 same_length returns)

@@ -9,34 +9,34 @@ use borrow.Author.Rules.{rules}
 use Rattle.records.proofs.number.put32.Statement.{statement}
 use Rattle.records.proofs.number.put32.Tie as tie
 
-cast-b : tie.Need-overflow-cast-b
+cast-b : tie.Need-overflow_cast-b
 cast-b c = search rules
 
 slice-write-b : tie.Need-slice-write-b
 slice-write-b c = search rules
 
-cast-b-2 : tie.Need-overflow-cast-b-2
+cast-b-2 : tie.Need-overflow_cast-b-2
 cast-b-2 c = search rules
 
-add-b : tie.Need-overflow-add-b
+add-b : tie.Need-overflow_add-b
 add-b c = search rules
 
 slice-write-b-2 : tie.Need-slice-write-b-2
 slice-write-b-2 c = simp length-set (omega arith)
 
-cast-b-3 : tie.Need-overflow-cast-b-3
+cast-b-3 : tie.Need-overflow_cast-b-3
 cast-b-3 c = search rules
 
-add-b-2 : tie.Need-overflow-add-b-2
+add-b-2 : tie.Need-overflow_add-b-2
 add-b-2 c = search rules
 
 slice-write-b-3 : tie.Need-slice-write-b-3
 slice-write-b-3 c = simp length-set (omega arith)
 
-cast-b-4 : tie.Need-overflow-cast-b-4
+cast-b-4 : tie.Need-overflow_cast-b-4
 cast-b-4 c = search rules
 
-add-b-3 : tie.Need-overflow-add-b-3
+add-b-3 : tie.Need-overflow_add-b-3
 add-b-3 c = search rules
 
 slice-write-b-4 : tie.Need-slice-write-b-4
@@ -49,8 +49,8 @@ returns : tie.Need-returns
 unfolding written number_bytes
 returns c = simp (two, three, add-one)
 
-pub put32-spec : {M : Type 1} → statement M
-put32-spec =
+pub put32_spec : {M : Type 1} → statement M
+put32_spec =
     tie.close
     (tie.spec
     cast-b

@@ -6,7 +6,7 @@ use borrow.Author.Rules.{rules}
 use Rattle.records.proofs.number.put8.Statement.{statement}
 use Rattle.records.proofs.number.put8.Tie as tie
 
-cast-b : tie.Need-overflow-cast-b
+cast-b : tie.Need-overflow_cast-b
 cast-b c = search rules
 
 slice-write-b : tie.Need-slice-write-b
@@ -19,5 +19,5 @@ returns : tie.Need-returns
 unfolding written number_bytes
 returns c = refl
 
-pub put8-spec : {M : Type 1} → statement M
-put8-spec = tie.close (tie.spec cast-b slice-write-b same_length returns)
+pub put8_spec : {M : Type 1} → statement M
+put8_spec = tie.close (tie.spec cast-b slice-write-b same_length returns)

@@ -18,13 +18,13 @@ decreases-loop b₀ at count i₀ b i = count - i
 loop-holds : tie.Need-loop-init invariant-loop decreases-loop
 loop-holds c = (omega arith, written_none _ _, refl)
 
-add-b : tie.Need-overflow-add-b invariant-loop decreases-loop
+add-b : tie.Need-overflow_add-b invariant-loop decreases-loop
 add-b c = omega arith
 
 slice-write-b : tie.Need-slice-write-b invariant-loop decreases-loop
 slice-write-b c = omega arith
 
-add-i : tie.Need-overflow-add-i invariant-loop decreases-loop
+add-i : tie.Need-overflow_add-i invariant-loop decreases-loop
 add-i c = omega arith
 
 loop-less : tie.Need-loop-smaller invariant-loop decreases-loop
@@ -43,8 +43,8 @@ same_length c = c.before.loop.invariant.2
 returns : tie.Need-returns invariant-loop decreases-loop
 returns c = let e : c.before.loop.i ≡ c.before.before.args.count = omega arith in rw e at c.before.loop.invariant.1
 
-pub put-blank-spec : {M : Type 1} → statement M
-put-blank-spec =
+pub put_blank_spec : {M : Type 1} → statement M
+put_blank_spec =
     tie.close
     (tie.spec
     invariant-loop

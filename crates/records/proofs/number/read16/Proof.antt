@@ -11,7 +11,7 @@ shared-slice-read-of-byte c = search rules
 of-byte-requires : tie.Need-of-byte-requires
 of-byte-requires c κs = search rules
 
-add-of-byte : tie.Need-overflow-add-of-byte
+add-of-byte : tie.Need-overflow_add-of-byte
 add-of-byte c = search rules
 
 shared-slice-read-of-byte-2 : tie.Need-shared-slice-read-of-byte-2
@@ -20,17 +20,17 @@ shared-slice-read-of-byte-2 c = search rules
 of-byte-requires-2 : tie.Need-of-byte-requires-2
 of-byte-requires-2 c κs = search rules
 
-mul-result : tie.Need-overflow-mul-result
+mul-result : tie.Need-overflow_mul-result
 mul-result c = search rules
 
-add-result : tie.Need-overflow-add-result
+add-result : tie.Need-overflow_add-result
 add-result c = search rules
 
 returns : tie.Need-returns
 returns c = omega (arith, number2 c.before.before.before.before.before.args.s.now c.before.before.before.before.before.args.at)
 
-pub read16-spec : {M : Type 1} → statement M
-read16-spec =
+pub read16_spec : {M : Type 1} → statement M
+read16_spec =
     tie.close
     (tie.spec
     shared-slice-read-of-byte

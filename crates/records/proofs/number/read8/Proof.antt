@@ -14,5 +14,5 @@ of-byte-requires c κs = search rules
 returns : tie.Need-returns
 returns c = omega (arith, number1 c.before.before.before.args.s.now c.before.before.before.args.at)
 
-pub read8-spec : {M : Type 1} → statement M
-read8-spec = tie.close (tie.spec shared-slice-read-of-byte of-byte-requires returns)
+pub read8_spec : {M : Type 1} → statement M
+read8_spec = tie.close (tie.spec shared-slice-read-of-byte of-byte-requires returns)

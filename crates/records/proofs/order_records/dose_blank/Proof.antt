@@ -18,5 +18,5 @@ returns : tie.Need-returns
 unfolding blank_at
 returns c = rw (c.both.ensures, c.before.before.blank.ensures, c.before.blank2.ensures, and-true)
 
-pub dose-blank-spec : {M : Type 1} → statement M
-dose-blank-spec = tie.close (tie.spec blank-requires blank-requires-2 both-requires returns)
+pub dose_blank_spec : {M : Type 1} → statement M
+dose_blank_spec = tie.close (tie.spec blank-requires blank-requires-2 both-requires returns)

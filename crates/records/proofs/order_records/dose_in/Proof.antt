@@ -25,7 +25,7 @@ returns c = λ i. record {
   grams = c.read323.ensures.0 i;
 }
 
-pub dose-in-spec : {M : Type 1} → statement M
-dose-in-spec =
+pub dose_in_spec : {M : Type 1} → statement M
+dose_in_spec =
     tie.close
     (tie.spec read16-requires read32-requires read32-requires-2 read32-requires-3 returns)

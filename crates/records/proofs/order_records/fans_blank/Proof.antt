@@ -18,5 +18,5 @@ returns : tie.Need-returns
 unfolding blank_at
 returns c = rw (c.both.ensures, c.before.before.blank.ensures, c.before.blank2.ensures, and-true)
 
-pub fans-blank-spec : {M : Type 1} → statement M
-fans-blank-spec = tie.close (tie.spec blank-requires blank-requires-2 both-requires returns)
+pub fans_blank_spec : {M : Type 1} → statement M
+fans_blank_spec = tie.close (tie.spec blank-requires blank-requires-2 both-requires returns)

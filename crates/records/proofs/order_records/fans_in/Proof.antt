@@ -25,5 +25,5 @@ returns c = λ i. record {
   top_seconds = c.read322.ensures.0 i;
 }
 
-pub fans-in-spec : {M : Type 1} → statement M
-fans-in-spec = tie.close (tie.spec read8-requires read8-requires-2 read32-requires read32-requires-2 returns)
+pub fans_in_spec : {M : Type 1} → statement M
+fans_in_spec = tie.close (tie.spec read8-requires read8-requires-2 read32-requires read32-requires-2 returns)

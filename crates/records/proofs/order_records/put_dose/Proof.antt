@@ -9,31 +9,31 @@ use Rattle.records.proofs.order_records.put_dose.Tie as tie
 put8-requires : tie.Need-put8-requires
 put8-requires c κs = search rules
 
-add-put-blank : tie.Need-overflow-add-put-blank
+add-put-blank : tie.Need-overflow_add-put-blank
 add-put-blank c = search rules
 
 put-blank-requires : tie.Need-put-blank-requires
 put-blank-requires c κs = search rules
 
-add-put16 : tie.Need-overflow-add-put16
+add-put16 : tie.Need-overflow_add-put16
 add-put16 c = search rules
 
 put16-requires : tie.Need-put16-requires
 put16-requires c κs = search rules
 
-add-put-pair : tie.Need-overflow-add-put-pair
+add-put-pair : tie.Need-overflow_add-put-pair
 add-put-pair c = search rules
 
 put-pair-requires : tie.Need-put-pair-requires
 put-pair-requires c κs = search rules
 
-add-put32 : tie.Need-overflow-add-put32
+add-put32 : tie.Need-overflow_add-put32
 add-put32 c = search rules
 
 put32-requires : tie.Need-put32-requires
 put32-requires c κs = search rules
 
-add-put-blank-2 : tie.Need-overflow-add-put-blank-2
+add-put-blank-2 : tie.Need-overflow_add-put-blank-2
 add-put-blank-2 c = search rules
 
 put-blank-requires-2 : tie.Need-put-blank-requires-2
@@ -55,8 +55,8 @@ returns c =
     let named = join _ _ _ _ (join _ _ _ _ head window.put-pair.ensures refl) grams.put32.ensures refl in
     join _ _ _ _ named zeros.put-blank2.ensures refl
 
-pub put-dose-spec : {M : Type 1} → statement M
-put-dose-spec =
+pub put_dose_spec : {M : Type 1} → statement M
+put_dose_spec =
     tie.close
     (tie.spec
     put8-requires

@@ -9,31 +9,31 @@ use Rattle.records.proofs.order_records.put_fans.Tie as tie
 put8-requires : tie.Need-put8-requires
 put8-requires c κs = search rules
 
-add-put8 : tie.Need-overflow-add-put8
+add-put8 : tie.Need-overflow_add-put8
 add-put8 c = search rules
 
 put8-requires-2 : tie.Need-put8-requires-2
 put8-requires-2 c κs = search rules
 
-add-put8-2 : tie.Need-overflow-add-put8-2
+add-put8-2 : tie.Need-overflow_add-put8-2
 add-put8-2 c = search rules
 
 put8-requires-3 : tie.Need-put8-requires-3
 put8-requires-3 c κs = search rules
 
-add-put-blank : tie.Need-overflow-add-put-blank
+add-put-blank : tie.Need-overflow_add-put-blank
 add-put-blank c = search rules
 
 put-blank-requires : tie.Need-put-blank-requires
 put-blank-requires c κs = search rules
 
-add-put-pair : tie.Need-overflow-add-put-pair
+add-put-pair : tie.Need-overflow_add-put-pair
 add-put-pair c = search rules
 
 put-pair-requires : tie.Need-put-pair-requires
 put-pair-requires c κs = search rules
 
-add-put-blank-2 : tie.Need-overflow-add-put-blank-2
+add-put-blank-2 : tie.Need-overflow_add-put-blank-2
 add-put-blank-2 c = search rules
 
 put-blank-requires-2 : tie.Need-put-blank-requires-2
@@ -55,8 +55,8 @@ returns c =
     let named = join _ _ _ _ (join _ _ _ _ head gap.put-blank.ensures refl) rate.put-pair.ensures refl in
     join _ _ _ _ named zeros.put-blank2.ensures refl
 
-pub put-fans-spec : {M : Type 1} → statement M
-put-fans-spec =
+pub put_fans_spec : {M : Type 1} → statement M
+put_fans_spec =
     tie.close
     (tie.spec
     put8-requires

@@ -7,13 +7,13 @@ use borrow.Author.Rules.{rules}
 use Rattle.records.proofs.plan.class_at.Statement.{statement}
 use Rattle.records.proofs.plan.class_at.Tie as tie
 
-mul-a : tie.Need-overflow-mul-a
+mul-a : tie.Need-overflow_mul-a
 mul-a c = search rules
 
-add-e : tie.Need-overflow-add-e
+add-e : tie.Need-overflow_add-e
 add-e c = search rules
 
-sub-class-in : tie.Need-overflow-sub-class-in
+sub-class-in : tie.Need-overflow_sub-class-in
 sub-class-in c = search rules
 
 part-class-in-start : tie.Need-slice-bounds-class-in-start
@@ -29,8 +29,8 @@ returns : tie.Need-returns
 unfolding class_in
 returns c = let A = c.before.before.before.args in read_part class_of A.plan.now A.i c.class-in.ensures
 
-pub class-at-spec : {M : Type 1} → statement M
-class-at-spec =
+pub class_at_spec : {M : Type 1} → statement M
+class_at_spec =
     tie.close
     (tie.spec
     mul-a

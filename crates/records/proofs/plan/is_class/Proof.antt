@@ -6,16 +6,16 @@ use borrow.Author.Rules.{rules}
 use Rattle.records.proofs.plan.is_class.Statement.{statement}
 use Rattle.records.proofs.plan.is_class.Tie as tie
 
-mul-a : tie.Need-overflow-mul-a
+mul-a : tie.Need-overflow_mul-a
 mul-a c = search rules
 
-add-e : tie.Need-overflow-add-e
+add-e : tie.Need-overflow_add-e
 add-e c = search rules
 
 kind-at-requires : tie.Need-kind-at-requires
 kind-at-requires c κs = search rules
 
-sub-class-blank : tie.Need-overflow-sub-class-blank
+sub-class-blank : tie.Need-overflow_sub-class-blank
 sub-class-blank c = search rules
 
 part-class-blank-start : tie.Need-slice-bounds-class-blank-start
@@ -36,8 +36,8 @@ returns c =
     let A = c.before.before.before.before.before.args in
     of_kind class_parts class_kind A.plan.now A.i c.both.ensures c.before.before.before.kind_at.ensures c.before.class-blank.ensures
 
-pub is-class-spec : {M : Type 1} → statement M
-is-class-spec =
+pub is_class_spec : {M : Type 1} → statement M
+is_class_spec =
     tie.close
     (tie.spec
     mul-a

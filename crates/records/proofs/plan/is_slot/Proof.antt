@@ -6,16 +6,16 @@ use borrow.Author.Rules.{rules}
 use Rattle.records.proofs.plan.is_slot.Statement.{statement}
 use Rattle.records.proofs.plan.is_slot.Tie as tie
 
-mul-a : tie.Need-overflow-mul-a
+mul-a : tie.Need-overflow_mul-a
 mul-a c = search rules
 
-add-e : tie.Need-overflow-add-e
+add-e : tie.Need-overflow_add-e
 add-e c = search rules
 
 kind-at-requires : tie.Need-kind-at-requires
 kind-at-requires c κs = search rules
 
-sub-slot-blank : tie.Need-overflow-sub-slot-blank
+sub-slot-blank : tie.Need-overflow_sub-slot-blank
 sub-slot-blank c = search rules
 
 part-slot-blank-start : tie.Need-slice-bounds-slot-blank-start
@@ -36,8 +36,8 @@ returns c =
     let A = c.before.before.before.before.before.args in
     of_kind slot_parts slot_kind A.plan.now A.i c.both.ensures c.before.before.before.kind_at.ensures c.before.slot-blank.ensures
 
-pub is-slot-spec : {M : Type 1} → statement M
-is-slot-spec =
+pub is_slot_spec : {M : Type 1} → statement M
+is_slot_spec =
     tie.close
     (tie.spec
     mul-a

@@ -7,13 +7,13 @@ use borrow.Author.Rules.{rules}
 use Rattle.records.proofs.plan.slot_at.Statement.{statement}
 use Rattle.records.proofs.plan.slot_at.Tie as tie
 
-mul-a : tie.Need-overflow-mul-a
+mul-a : tie.Need-overflow_mul-a
 mul-a c = search rules
 
-add-e : tie.Need-overflow-add-e
+add-e : tie.Need-overflow_add-e
 add-e c = search rules
 
-sub-slot-in : tie.Need-overflow-sub-slot-in
+sub-slot-in : tie.Need-overflow_sub-slot-in
 sub-slot-in c = search rules
 
 part-slot-in-start : tie.Need-slice-bounds-slot-in-start
@@ -29,7 +29,7 @@ returns : tie.Need-returns
 unfolding slot_in
 returns c = let A = c.before.before.before.args in read_part slot_of A.plan.now A.i c.slot-in.ensures
 
-pub slot-at-spec : {M : Type 1} → statement M
-slot-at-spec =
+pub slot_at_spec : {M : Type 1} → statement M
+slot_at_spec =
     tie.close
     (tie.spec mul-a add-e sub-slot-in part-slot-in-start part-slot-in-end slot-in-requires returns)

@@ -13,5 +13,5 @@ returns : tie.Need-returns
 unfolding blank_at
 returns c = c.blank.ensures ∙ sym (and-true _)
 
-pub class-blank-spec : {M : Type 1} → statement M
-class-blank-spec = tie.close (tie.spec blank-requires returns)
+pub class_blank_spec : {M : Type 1} → statement M
+class_blank_spec = tie.close (tie.spec blank-requires returns)

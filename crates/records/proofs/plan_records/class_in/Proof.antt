@@ -25,6 +25,6 @@ returns c = λ i. record {
   time = c.read322.ensures.0 i;
 }
 
-pub class-in-spec : {M : Type 1} → statement M
-class-in-spec =
+pub class_in_spec : {M : Type 1} → statement M
+class_in_spec =
     tie.close (tie.spec read8-requires read16-requires read32-requires read32-requires-2 returns)

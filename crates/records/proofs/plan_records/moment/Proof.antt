@@ -5,14 +5,14 @@ use borrow.Author.Rules.{rules}
 use Rattle.records.proofs.plan_records.moment.Statement.{statement}
 use Rattle.records.proofs.plan_records.moment.Tie as tie
 
-mul-result : tie.Need-overflow-mul-result
+mul-result : tie.Need-overflow_mul-result
 mul-result c = omega (arith, product_fits c.args.tick c.args.weight c.args.part (omega arith) (omega arith) (omega arith))
 
-add-result : tie.Need-overflow-add-result
+add-result : tie.Need-overflow_add-result
 add-result c = omega (arith, product_fits c.args.tick c.args.weight c.args.part (omega arith) (omega arith) (omega arith))
 
 returns : tie.Need-returns
 returns c = search rules
 
-pub moment-spec : {M : Type 1} → statement M
-moment-spec = tie.close (tie.spec mul-result add-result returns)
+pub moment_spec : {M : Type 1} → statement M
+moment_spec = tie.close (tie.spec mul-result add-result returns)

@@ -10,13 +10,13 @@ use Rattle.records.proofs.plan_records.put_class.Tie as tie
 put-head-requires : tie.Need-put-head-requires
 put-head-requires c κs = search rules
 
-add-put-pair : tie.Need-overflow-add-put-pair
+add-put-pair : tie.Need-overflow_add-put-pair
 add-put-pair c = search rules
 
 put-pair-requires : tie.Need-put-pair-requires
 put-pair-requires c κs = search rules
 
-add-put-blank : tie.Need-overflow-add-put-blank
+add-put-blank : tie.Need-overflow_add-put-blank
 add-put-blank c = search rules
 
 put-blank-requires : tie.Need-put-blank-requires
@@ -33,8 +33,8 @@ returns c =
     let head = amounts.before.before.before.before in
     join _ _ _ _ (join _ _ _ _ head.put-head.ensures amounts.put-pair.ensures refl) zeros.put-blank.ensures refl
 
-pub put-class-spec : {M : Type 1} → statement M
-put-class-spec =
+pub put_class_spec : {M : Type 1} → statement M
+put_class_spec =
     tie.close
     (tie.spec
     put-head-requires

@@ -9,13 +9,13 @@ use Rattle.records.proofs.plan_records.put_head.Tie as tie
 put8-requires : tie.Need-put8-requires
 put8-requires c κs = search rules
 
-add-put8 : tie.Need-overflow-add-put8
+add-put8 : tie.Need-overflow_add-put8
 add-put8 c = search rules
 
 put8-requires-2 : tie.Need-put8-requires-2
 put8-requires-2 c κs = search rules
 
-add-put16 : tie.Need-overflow-add-put16
+add-put16 : tie.Need-overflow_add-put16
 add-put16 c = search rules
 
 put16-requires : tie.Need-put16-requires
@@ -32,7 +32,7 @@ returns c =
     let kind = first.before.before.before.before in
     join _ _ _ _ (join _ _ _ _ kind.put8.ensures first.put82.ensures refl) second.put16.ensures refl
 
-pub put-head-spec : {M : Type 1} → statement M
-put-head-spec =
+pub put_head_spec : {M : Type 1} → statement M
+put_head_spec =
     tie.close
     (tie.spec put8-requires add-put8 put8-requires-2 add-put16 put16-requires same_length returns)

@@ -10,31 +10,31 @@ use Rattle.records.proofs.plan_records.put_slot.Tie as tie
 put-head-requires : tie.Need-put-head-requires
 put-head-requires c κs = search rules
 
-add-put-pair : tie.Need-overflow-add-put-pair
+add-put-pair : tie.Need-overflow_add-put-pair
 add-put-pair c = search rules
 
 put-pair-requires : tie.Need-put-pair-requires
 put-pair-requires c κs = search rules
 
-add-put-pair-2 : tie.Need-overflow-add-put-pair-2
+add-put-pair-2 : tie.Need-overflow_add-put-pair-2
 add-put-pair-2 c = search rules
 
 put-pair-requires-2 : tie.Need-put-pair-requires-2
 put-pair-requires-2 c κs = search rules
 
-add-put-pair-3 : tie.Need-overflow-add-put-pair-3
+add-put-pair-3 : tie.Need-overflow_add-put-pair-3
 add-put-pair-3 c = search rules
 
 put-pair-requires-3 : tie.Need-put-pair-requires-3
 put-pair-requires-3 c κs = search rules
 
-add-put8 : tie.Need-overflow-add-put8
+add-put8 : tie.Need-overflow_add-put8
 add-put8 c = search rules
 
 put8-requires : tie.Need-put8-requires
 put8-requires c κs = search rules
 
-add-put-blank : tie.Need-overflow-add-put-blank
+add-put-blank : tie.Need-overflow_add-put-blank
 add-put-blank c = search rules
 
 put-blank-requires : tie.Need-put-blank-requires
@@ -56,8 +56,8 @@ returns c =
     let named = join _ _ _ _ (join _ _ _ _ window amounts.put-pair3.ensures refl) class.put8.ensures refl in
     join _ _ _ _ named zeros.put-blank.ensures refl
 
-pub put-slot-spec : {M : Type 1} → statement M
-put-slot-spec =
+pub put_slot_spec : {M : Type 1} → statement M
+put_slot_spec =
     tie.close
     (tie.spec
     put-head-requires

@@ -13,5 +13,5 @@ returns : tie.Need-returns
 unfolding blank_at
 returns c = c.blank.ensures ∙ sym (and-true _)
 
-pub slot-blank-spec : {M : Type 1} → statement M
-slot-blank-spec = tie.close (tie.spec blank-requires returns)
+pub slot_blank_spec : {M : Type 1} → statement M
+slot_blank_spec = tie.close (tie.spec blank-requires returns)

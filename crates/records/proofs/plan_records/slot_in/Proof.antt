@@ -45,8 +45,8 @@ returns c = λ i. record {
   class = c.read82.ensures.0 i;
 }
 
-pub slot-in-spec : {M : Type 1} → statement M
-slot-in-spec =
+pub slot_in_spec : {M : Type 1} → statement M
+slot_in_spec =
     tie.close
     (tie.spec
     read8-requires

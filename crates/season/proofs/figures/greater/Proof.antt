@@ -19,5 +19,5 @@ returns-2 c =
     let A = c.before.before.args in
     rw (lt-ltb (A.a.weight * A.b.time) (A.b.weight * A.a.time) (omega (arith, c.before.excess.ensures, c.if1.false)))
 
-pub greater-spec : {M : Type 1} → statement M
-greater-spec = tie.close (tie.spec excess-requires returns returns-2)
+pub greater_spec : {M : Type 1} → statement M
+greater_spec = tie.close (tie.spec excess-requires returns returns-2)

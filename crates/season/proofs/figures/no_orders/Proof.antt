@@ -9,5 +9,5 @@ returns : tie.Need-returns
 unfolding season_of gather total greatest_from
 returns c = refl
 
-pub no-orders-spec : {M : Type 1} → statement M
-no-orders-spec = tie.close (tie.spec returns)
+pub no_orders_spec : {M : Type 1} → statement M
+no_orders_spec = tie.close (tie.spec returns)

@@ -9,13 +9,13 @@ use Rattle.season.proofs.figures.with_order.Tie as tie
 greater-requires : tie.Need-greater-requires
 greater-requires c κs = search rules
 
-add-t8 : tie.Need-overflow-add-t8
+add-t8 : tie.Need-overflow_add-t8
 add-t8 c = omega (arith, c.before.before.before.before.requires.0.few_accepted)
 
-add-t9 : tie.Need-overflow-add-t9
+add-t9 : tie.Need-overflow_add-t9
 add-t9 c = let asked = c.before.before.before.before.before.requires in omega (arith, asked.0.grams_most, asked.1)
 
-add-t10 : tie.Need-overflow-add-t10
+add-t10 : tie.Need-overflow_add-t10
 add-t10 c = let asked = c.before.before.before.before.before.before.requires in omega (arith, asked.0.seconds_most, asked.2)
 
 returns : tie.Need-returns
@@ -31,5 +31,5 @@ returns c =
       greatest = greatest i;
     }
 
-pub with-order-spec : {M : Type 1} → statement M
-with-order-spec = tie.close (tie.spec greater-requires add-t8 add-t9 add-t10 returns)
+pub with_order_spec : {M : Type 1} → statement M
+with_order_spec = tie.close (tie.spec greater-requires add-t8 add-t9 add-t10 returns)

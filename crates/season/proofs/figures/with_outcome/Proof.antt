@@ -31,5 +31,5 @@ returns-2 : tie.Need-returns-2
 unfolding as_outcome
 returns-2 c = rw c.before.before.x2.given.1 c.with-refusal.ensures
 
-pub with-outcome-spec : {M : Type 1} → statement M
-with-outcome-spec = tie.close (tie.spec enum-known-x with-order-requires enum-known-x-2 with-refusal-requires returns returns-2)
+pub with_outcome_spec : {M : Type 1} → statement M
+with_outcome_spec = tie.close (tie.spec enum-known-x with-order-requires enum-known-x-2 with-refusal-requires returns returns-2)

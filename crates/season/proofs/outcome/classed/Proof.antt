@@ -58,5 +58,5 @@ returns-2 c =
       (all_grams.1, all_seconds.1),
     )
 
-pub classed-spec : {M : Type 1} → statement M
-classed-spec = tie.close (tie.spec classes-of-requires too-fast-requires returns together-requires together-requires-2 first-of-requires returns-2)
+pub classed_spec : {M : Type 1} → statement M
+classed_spec = tie.close (tie.spec classes-of-requires too-fast-requires returns together-requires together-requires-2 first-of-requires returns-2)

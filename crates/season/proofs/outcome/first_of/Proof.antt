@@ -12,7 +12,7 @@ returns c = let start = c.before in first_none (as_order start.args.o) start.req
 element-copy-out-t8 : tie.Need-element-copy-out-t8
 element-copy-out-t8 c = search rules
 
-cast-t9 : tie.Need-overflow-cast-t9
+cast-t9 : tie.Need-overflow_cast-t9
 cast-t9 c =
     let start = c.before.before in
     omega (arith, weights_fit (as_order start.args.o) start.requires.0 start.args.t1 start.requires.1 0 (omega arith))
@@ -20,7 +20,7 @@ cast-t9 c =
 element-copy-out-t12 : tie.Need-element-copy-out-t12
 element-copy-out-t12 c = search rules
 
-cast-t13 : tie.Need-overflow-cast-t13
+cast-t13 : tie.Need-overflow_cast-t13
 cast-t13 c =
     let start = c.before.before.before in
     omega (arith, times_fit (as_order start.args.o) start.requires.0 start.args.t1 start.requires.1 0 (omega arith))
@@ -30,5 +30,5 @@ returns-2 c =
     let start = c.before.before.before in
     first_some (as_order start.args.o) start.requires.0 start.args.t1 start.requires.1 (omega arith)
 
-pub first-of-spec : {M : Type 1} → statement M
-first-of-spec = tie.close (tie.spec returns element-copy-out-t8 cast-t9 element-copy-out-t12 cast-t13 returns-2)
+pub first_of_spec : {M : Type 1} → statement M
+first_of_spec = tie.close (tie.spec returns element-copy-out-t8 cast-t9 element-copy-out-t12 cast-t13 returns-2)

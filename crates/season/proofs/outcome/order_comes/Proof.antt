@@ -36,5 +36,5 @@ classed-requires c κs = read_fits _ _ _ (order_is c.before)
 returns-2 : tie.Need-returns-2
 returns-2 c = (comes_read _ (order_is c.before.before) c.classed.ensures.0, c.classed.ensures.1)
 
-pub order-comes-spec : {M : Type 1} → statement M
-order-comes-spec = tie.close (tie.spec read-order-requires returns classed-requires returns-2)
+pub order_comes_spec : {M : Type 1} → statement M
+order_comes_spec = tie.close (tie.spec read-order-requires returns classed-requires returns-2)

@@ -19,18 +19,18 @@ decreases-loop n numbers sum₀ i₀ sum i = n - i
 loop-holds : tie.Need-loop-init invariant-loop decreases-loop
 loop-holds c = (omega arith, sum_none _, omega arith)
 
-mul-sum : tie.Need-overflow-mul-sum invariant-loop decreases-loop
+mul-sum : tie.Need-overflow_mul-sum invariant-loop decreases-loop
 mul-sum c = search rules
 
 array-read-sum : tie.Need-array-read-sum invariant-loop decreases-loop
 array-read-sum c = search rules
 
-add-sum : tie.Need-overflow-add-sum invariant-loop decreases-loop
+add-sum : tie.Need-overflow_add-sum invariant-loop decreases-loop
 add-sum c =
     let L = c.before.loop in
     omega (arith, L.invariant.2, c.before.before.requires.1 L.i (omega arith))
 
-add-i : tie.Need-overflow-add-i invariant-loop decreases-loop
+add-i : tie.Need-overflow_add-i invariant-loop decreases-loop
 add-i c = search rules
 
 loop-less : tie.Need-loop-smaller invariant-loop decreases-loop
@@ -49,5 +49,5 @@ returns c =
     let A = c.before.before.args in
     (at_end (λ (i : ℕ). L.sum ≡ sets.sum i (λ i. get_or A.t1 i 0)) (omega arith) L.invariant.1, omega (arith, L.invariant.2))
 
-pub together-spec : {M : Type 1} → statement M
-together-spec = tie.close (tie.spec invariant-loop decreases-loop loop-holds mul-sum array-read-sum add-sum add-i loop-less loop-again returns)
+pub together_spec : {M : Type 1} → statement M
+together_spec = tie.close (tie.spec invariant-loop decreases-loop loop-holds mul-sum array-read-sum add-sum add-i loop-less loop-again returns)
