@@ -1,6 +1,8 @@
 // "Shares that are short of the needs are raised along chains" (document 01, "From classes to slots"). One array holds the share of dose d in
 // interval j at d * 47 + j; rooms are laid out the same way. A station is a dose, 0 to 23, or an interval, 24 to 70; a place more rounds the
 // marks up to whole words, which copies them faster.
+#![tactic(auto)]
+
 ghost use Rattle.std.specs.Prelude.{◌≡◌, ℕ, ◌+◌, ◌<◌, ◌≤◌, length};
 ghost use Rattle.model.specs.Limits.{cells, most_doses, most_intervals};
 ghost use Rattle.class_chains.specs.Chains.{cell, got, given, Bounded, Sized, FromDose, FromInterval};

@@ -1,4 +1,6 @@
 // The rounds that find the next class, and the shares that a candidate asks for (document 01, "From doses to classes", "From classes to slots").
+#![tactic(auto)]
+
 ghost use Rattle.std.specs.Prelude.{◌≡◌, false, ◌&&◌, ℕ, ◌+◌, ◌*◌, ◌<◌, ◌≤◌, ltb, length, get_or};
 ghost use Rattle.model.specs.Limits.{cells, most_weight, most_doses, most_intervals, week};
 ghost use Rattle.model.specs.Sets.{Nonempty};

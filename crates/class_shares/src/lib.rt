@@ -1,4 +1,6 @@
 // Shares of doses in intervals, raised along chains (document 01, "From classes to slots").
+#![tactic(auto)]
+
 ghost use Rattle.std.specs.Prelude.{◌≡◌, ℕ, ◌<◌, ◌≤◌, length, get_or};
 ghost use Rattle.model.specs.Limits.{cells, most_doses, most_intervals};
 ghost use Rattle.class_chains.specs.Chains.{got, Bounded, Sized};

@@ -1,5 +1,7 @@
 // The rate classes of an order and their shares (document 01, "From doses to classes"). Doses and intervals stand in arrays: dose k is
 // active in interval j at k * 47 + j, and nothing stands past the doses and the intervals.
+#![tactic(auto)]
+
 mod sequence; // sequence.rt: which dose is filled first
 mod table; // table.rt: reservations
 mod top; // top.rt: refusal 9
@@ -47,7 +49,7 @@ fn keep_shares(shares: &mut [u64], x: &[u64], members: [bool; MOST_DOSES])
 
 // The phases so far: "remaining doses, class number and counts", with the class number of each dose (0: none yet) and W and P of
 // each class.
-#[derive(Drop)]
+#[derive(Clone, Copy)]
 pub struct Tally {
     pub remaining: [bool; MOST_DOSES],
     pub class: usize,

@@ -1,5 +1,7 @@
 // Orders from standard input, a frame of 1,632 bytes each, read and printed: their classes, and whether the shares are valid.
 // A frame has the order's length in its first four bytes, and from byte 32 on the order.
+#![tactic(auto)]
+
 ghost use Rattle.model.proofs.Orders.{Fit};
 ghost use Rattle.order.specs.Held.{as_order};
 

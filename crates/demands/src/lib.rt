@@ -1,1 +1,2 @@
 // No code: the theorems of proofs/ that no code cites.
+#![tactic(auto)]

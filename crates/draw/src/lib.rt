@@ -1,4 +1,6 @@
 // A dose's point at a tick (document 01, "The drawn line"; Dosing by the whole second, document 02, C-12), and the pen over it.
+#![tactic(auto)]
+
 ghost use Rattle.std.specs.Prelude.{◌≡◌, ◌+◌, ◌*◌, ◌-◌, ◌/◌, ◌<◌, ◌≤◌, min, length};
 ghost use Rattle.model.specs.Limits.{most_doses, most_fan_time, most_grams, week};
 ghost use Rattle.model.specs.Sets.{on};
@@ -20,7 +22,7 @@ use steps::limits::{MOST_BAY, WEEK};
 use steps::{both, less, product, smaller, wide};
 
 // "one of four states"; "Dosing carries the fan number"
-#[derive(Drop)]
+#[derive(Clone, Copy)]
 pub enum State {
     Finished,
     Shut,
@@ -54,7 +56,7 @@ pub struct Drawn {
 }
 
 // "it holds a dose and a tick"
-#[derive(Drop)]
+#[derive(Clone, Copy)]
 pub struct Pen {
     pub dose: usize,
     pub tick: u32,

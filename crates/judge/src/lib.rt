@@ -1,4 +1,6 @@
 // Whether plan bytes stand for an order (document 01, "A plan stands"). The plan is its own certificate: no share is raised.
+#![tactic(auto)]
+
 mod numbers; // numbers.rt: the class of each dose, as the slots name it
 mod top; // top.rt: refusal 9
 

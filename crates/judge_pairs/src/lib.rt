@@ -1,4 +1,6 @@
 // Two slots: "slots by interval, fan, start"; "no two slots of one fan overlap; no two slots of one dose overlap".
+#![tactic(auto)]
+
 ghost use Rattle.std.specs.Prelude.{ℕ, ◌+◌, ◌/◌, ◌<◌, ◌≤◌, length};
 ghost use Rattle.model.specs.Limits.{most_intervals};
 ghost use Rattle.model.specs.Records.{record_size};

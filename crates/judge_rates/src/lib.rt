@@ -1,4 +1,6 @@
 // W and P of the sets that the slots name, by the rule (document 01, "From doses to classes"), against the C records.
+#![tactic(auto)]
+
 ghost use Rattle.std.specs.Prelude.{◌≡◌, ℕ, ◌+◌, ◌-◌, ◌/◌, ◌<◌, ◌≤◌, length, get_or};
 ghost use Rattle.model.specs.Limits.{most_doses, most_intervals};
 ghost use Rattle.model.specs.Records.{record_size};

@@ -1,4 +1,6 @@
 // The clauses that go over the slots one by one (document 01, "A plan stands"): here those of each slot by itself.
+#![tactic(auto)]
+
 mod units; // units.rt: what the slots of each dose total
 
 ghost use Rattle.std.specs.Prelude.{◌≡◌, ℕ, ◌/◌, ◌<◌, ◌≤◌, length, get_or};

@@ -1,5 +1,7 @@
 // The six entry points for C and Rust: numbers and byte slices only. Each hands on what the proved function answers; include/knellgable.h
 // says the promises in words.
+#![tactic(auto)]
+
 ghost use Rattle.std.specs.Prelude.{◌≡◌};
 ghost use Rattle.model.specs.Answers.{Plans, Judges, Lays};
 ghost use Rattle.model.specs.Season.{AddsUp};
@@ -196,7 +198,7 @@ pub extern "C" fn knellgable_advance(
 pub extern "C" fn knellgable_log(order: &[u8], plan: &[u8], dose: usize, log: &[u8]) -> Laid
     ensures { Lays order.now plan.now dose log.now (as_laid result) }
 {
-    let l = log::lay(order, plan, dose, log);
+    let l = log_beside::lay(order, plan, dose, log);
     Laid {
         number: l.number,
         place: l.place,

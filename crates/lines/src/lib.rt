@@ -1,4 +1,6 @@
 // The printers' texts, written into a lent buffer (document 01, "The plan printer"; document 02, C-15).
+#![tactic(auto)]
+
 ghost use Rattle.std.specs.Prelude.{◌+◌, ◌*◌, ◌/◌, ◌<◌, ◌≤◌, length};
 ghost use Rattle.model.specs.Limits.{order_numbers};
 ghost use Rattle.model.specs.Records.{record_at, record_size};

@@ -1,4 +1,6 @@
 // An order in arrays, and what a set of its doses weighs and opens (document 01, "From doses to classes").
+#![tactic(auto)]
+
 mod arrays; // arrays.rt: an order's doses and intervals in arrays
 
 ghost use Rattle.std.specs.Prelude.{◌≡◌, false, ℕ, ◌+◌, ◌*◌, ◌<◌, ◌≤◌, length, get_or};

@@ -1,1 +1,2 @@
 // No code: the definitions of specs/, and the laws of proofs/ that code is proved by.
+#![tactic(auto)]

@@ -1,5 +1,7 @@
 // Orders read from bytes (document 01, "Records" and refusals 2 to 8; document 02, C-14: 15, and C-16: the rest). The caller names the last bay that
 // is open.
+#![tactic(auto)]
+
 mod record; // record.rt: one record
 
 ghost use Rattle.std.specs.Prelude.{◌≡◌, ◌+◌, ◌<◌, ◌≤◌, length};
@@ -31,7 +33,7 @@ pub enum Entry {
 }
 
 // "exactly one F, anywhere among up to 24 D": dose k stands at k of each array, zeros behind the last. The rest is in seconds.
-#[derive(Drop)]
+#[derive(Clone, Copy)]
 pub struct Order {
     pub fans: u32,
     pub rest: u32,

@@ -1,5 +1,7 @@
 // Orders made here, read and printed: every refusal 2 to 8 and 15 with its place, the ends of every range, and instants. But for those with
 // trial bays, as old orders.
+#![tactic(auto)]
+
 ghost use Rattle.std.specs.Prelude.{◌+◌, ◌*◌, ◌≤◌, ◌<◌, length};
 ghost use Rattle.model.specs.Limits.{most_doses};
 

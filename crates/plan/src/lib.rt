@@ -1,4 +1,6 @@
 // Planning an order into a lent buffer (document 01, "What comes back").
+#![tactic(auto)]
+
 mod answer; // answer.rt: what comes back
 mod tables; // tables.rt: the tables that slots are laid by
 mod write; // write.rt: the plan's records

@@ -1,4 +1,6 @@
 // Slots laid by wrap-around into a lent buffer (document 01, "From classes to slots").
+#![tactic(auto)]
+
 ghost use Rattle.std.specs.Prelude.{◌≡◌, map, ◌+◌, ◌*◌, ◌<◌, ◌≤◌, eqb, length, get_or};
 ghost use Rattle.model.specs.Limits.{cells, most_doses, most_intervals};
 ghost use Rattle.model.specs.Records.{record_size};
@@ -14,7 +16,7 @@ use steps::limits::{MOST_DOSES, MOST_INSTANTS, MOST_INTERVALS};
 use steps::{index, of_byte};
 
 // One class in one interval: where it starts and how long it is, the class's W, P and number, and the fans below its own.
-#[derive(Drop)]
+#[derive(Clone, Copy)]
 pub struct Lane {
     pub start: u32,
     pub len: u32,
@@ -26,7 +28,7 @@ pub struct Lane {
 
 // What shares are laid by: how many doses, classes and intervals; the instants that bound the intervals; W and P of each class; the number of each
 // dose's class.
-#[derive(Drop)]
+#[derive(Clone, Copy)]
 pub struct Tables {
     pub doses: usize,
     pub classes: usize,

@@ -1,4 +1,6 @@
 // Points of P1 and P2 at the ticks that document 01 names, and the refusals 10, 11 and 12 at their edges; then pens that are lent and moved on.
+#![tactic(auto)]
+
 ghost use Rattle.std.specs.Prelude.{◌+◌, ◌≤◌, length};
 ghost use Rattle.model.specs.Answers.{Moves};
 ghost use Rattle.draw.specs.Drawing.{as_drawn, as_pen};

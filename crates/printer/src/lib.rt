@@ -1,5 +1,7 @@
 // "Reads up to 1,601 bytes of order from standard input", plans it and prints the plan or the refusal (document 01, "The plan printer").
 // A Rattle `main` has no exit status, so `printer_main` is exported and linked as the program's main (tests/link).
+#![tactic(auto)]
+
 ghost use Rattle.std.specs.Prelude.{◌≡◌, ◌+◌, ◌*◌, ◌≤◌, length};
 ghost use Rattle.model.specs.Limits.{plan_room};
 ghost use Rattle.model.specs.Records.{record_size};

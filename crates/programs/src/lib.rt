@@ -1,4 +1,6 @@
 // What the programs share: standard input, read to its end or until a buffer is full.
+#![tactic(auto)]
+
 ghost use Rattle.std.specs.Prelude.{◌+◌, ◌≤◌, length};
 ghost use Rattle.io.specs.Counts.{IsPrefixLen};
 

@@ -1,4 +1,6 @@
 // The records of documents 01 and 02: where a field of an F, a D, a C, an S or an M stands in its bytes is known in this crate alone.
+#![tactic(auto)]
+
 pub mod log_records; // log_records.rt: M
 pub mod number; // number.rt: numbers and zeros in bytes
 pub mod order_records; // order_records.rt: F and D

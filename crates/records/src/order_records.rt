@@ -10,7 +10,7 @@ use crate::{DOSE_KIND, FANS_KIND};
 use steps::both;
 
 // "F (0x46) fans: 1 number of fans, 1 to 8; 4-7 top grams, 8-11 top seconds, each 1 to 1,000,000"; "Byte 2 of F .. names the rule", 0 or 1
-#[derive(Drop)]
+#[derive(Clone, Copy)]
 pub struct Fans {
     pub fans: u32,
     pub rule: u32,
@@ -19,7 +19,7 @@ pub struct Fans {
 }
 
 // "D (0x44) dose: 2-3 bay, 1 to 999; 4-7 release, 0 to 604,799; 8-11 deadline, release+1 to 604,800; 12-15 grams, 1 to 1,000,000"
-#[derive(Drop)]
+#[derive(Clone, Copy)]
 pub struct Dose {
     pub bay: u32,
     pub release: u32,

@@ -10,7 +10,7 @@ use crate::number::{blank, put_blank, put_pair, put8, put16, read8, read16, read
 use crate::{CLASS_KIND, SLOT_KIND};
 
 // "C (0x43) class: 1 class number from 1; 2-3 doses in it; 4-7 W; 8-11 P"
-#[derive(Drop)]
+#[derive(Clone, Copy)]
 pub struct Class {
     pub number: u32,
     pub doses: u32,
@@ -19,7 +19,7 @@ pub struct Class {
 }
 
 // "S (0x53) slot: 1 fan from 1; 2-3 dose; 4-7 start tick; 8-11 start part; 12-15 end tick; 16-19 end part; 20-23 W; 24-27 P; 28 class number"
-#[derive(Drop)]
+#[derive(Clone, Copy)]
 pub struct Slot {
     pub fan: u32,
     pub dose: u32,

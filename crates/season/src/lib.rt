@@ -1,4 +1,6 @@
 // The season's sheet (document 02, C-15): a stream of orders is cut at its F records, each order is read by itself, and what they come to is added up.
+#![tactic(auto)]
+
 mod figures; // figures.rt: the figures so far and one order more
 mod outcome; // outcome.rt: what one order comes to
 

@@ -1,5 +1,7 @@
 // Reads up to 65,537 bytes of a stream of orders from standard input, adds it up and prints the season's figures or the refusal (document 02, C-15).
 // A Rattle `main` has no exit status, so `season_main` is exported and linked as the program's main (tests/link).
+#![tactic(auto)]
+
 ghost use Rattle.std.specs.Prelude.{◌≡◌, ◌≤◌, length};
 ghost use Rattle.lines.specs.Text.{Put};
 ghost use Rattle.programs.specs.Exits.{Exits};

@@ -1,4 +1,6 @@
 // Small steps on numbers and tests, each with what it comes to.
+#![tactic(auto)]
+
 pub mod limits; // limits.rt: limits by name
 
 ghost use Rattle.std.specs.Prelude.{◌≡◌, not, ◌&&◌, ◌+◌, ◌-◌, ◌*◌, ◌<◌, ◌≤◌, min};
