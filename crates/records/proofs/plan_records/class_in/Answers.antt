@@ -1,0 +1,13 @@
+-- `class_in` meets its contract: the fields of a C record, each read at its place.
+use Rattle.model.specs.Records.{fields_at}
+use borrow.Author.Rules.{rules}
+use Rattle.records.proofs.plan_records.class_in.Goals as goal
+
+pub returns : goal.returns
+unfolding fields_at
+returns c = λ i. record {
+  number = c.read8.ensures.0 i;
+  doses = c.read16.ensures.0 i;
+  weight = c.read32.ensures.0 i;
+  time = c.read32-2.ensures.0 i;
+}

@@ -1,0 +1,11 @@
+-- `put_head` meets its contract: one byte, one byte and two bytes, one behind the other, are one run of four.
+use mathlib.Core.Path.{refl}
+use Rattle.records.proofs.Laws.{join}
+use Rattle.model.specs.Records.{number_bytes}
+use borrow.Author.Rules.{rules}
+use Rattle.records.proofs.plan_records.put_head.Goals as goal
+
+pub returns : goal.returns
+unfolding number_bytes
+returns c =
+    join _ _ _ _ (join _ _ _ _ c.put8.ensures c.put8-2.ensures refl) c.put16.ensures refl

@@ -1,0 +1,18 @@
+-- `slot_in` meets its contract: the fields of an S record, each read at its place.
+use Rattle.model.specs.Records.{fields_at}
+use borrow.Author.Rules.{rules}
+use Rattle.records.proofs.plan_records.slot_in.Goals as goal
+
+pub returns : goal.returns
+unfolding fields_at
+returns c = λ i. record {
+  fan = c.read8.ensures.0 i;
+  dose = c.read16.ensures.0 i;
+  start_tick = c.read32.ensures.0 i;
+  start_part = c.read32-2.ensures.0 i;
+  end_tick = c.read32-3.ensures.0 i;
+  end_part = c.read32-4.ensures.0 i;
+  weight = c.read32-5.ensures.0 i;
+  time = c.read32-6.ensures.0 i;
+  class = c.read8-2.ensures.0 i;
+}
