@@ -2,11 +2,7 @@
 use Prim.Native.Nat.{ℕ}
 use mathlib.Core.Path.{◌≡◌, refl, ap, ◌∙◌}
 use mathlib.Core.Bool.{Bool, true, false}
-use mathlib.Core.Logic.{inl, inr}
-use mathlib.Core.List.{[], ◌∷◌}
 use native.Mathlib.Omega.{arith}
-use denote.Enum.Declared.{tag_of}
-use types.Run.{OneOf}
 use Rattle.model.specs.Records.{read}
 use Rattle.model.specs.Orders.{checked}
 use Rattle.model.specs.Orders as orders
@@ -19,7 +15,6 @@ use Rattle.order.specs.declared.Refusal.{Refusal}
 use Rattle.order.specs.declared.Gathered.{Gathered}
 use Rattle.order.specs.declared.Walked.{Walked}
 use Rattle.order.specs.Gathered.{fault_of, went, no_records, with_fans, with_dose_at, taken, taken_other, taken_refused}
-use Rattle.order.specs.contracts.Entry.{the_type}
 
 -- ---- a record of known kind: its fault, or its fields
 
@@ -44,22 +39,20 @@ faultless false f o e k h z = absurd (let y : ⊥ = omega arith in y)
 
 -- ---- taken apart
 
-pub no_refusal : {n : Gathered} (e : Entry) → n ≡ no_records → OneOf (0 ∷ 1 ∷ []) (tag_of the_type e) → went n ≡ taken_refused e
+pub no_refusal : {n : Gathered} (e : Entry) → n ≡ no_records → ((x : Refusal) → e ≡ is.Refused x → ⊥) → went n ≡ taken_refused e
 unfolding taken_refused
 no_refusal (is.Fans f) h k = ap went h
 no_refusal (is.Dose d) h k = ap went h
-no_refusal (is.Refused x) h (inl k) = absurd (let z : ⊥ = omega arith in z)
-no_refusal (is.Refused x) h (inr k) = absurd (let z : ⊥ = omega arith in z)
+no_refusal (is.Refused x) h k = absurd (k x refl)
 
 pub refusal : {n : Gathered} {e : Entry} {x : Refusal} → n ≡ no_records → e ≡ is.Refused x
     → record { number = x.number; place = x.place; gathered = n } ≡ taken_refused e
 unfolding taken_refused
 refusal h q = rw (h, q)
 
-pub no_fans : {w : Walked} (s : Gathered) (e : Entry) → w ≡ taken_refused e → OneOf (1 ∷ 2 ∷ []) (tag_of the_type e) → w ≡ taken_other s e
+pub no_fans : {w : Walked} (s : Gathered) (e : Entry) → w ≡ taken_refused e → ((f : Fans) → e ≡ is.Fans f → ⊥) → w ≡ taken_other s e
 unfolding taken_other
-no_fans s (is.Fans f) h (inl k) = absurd (let z : ⊥ = omega arith in z)
-no_fans s (is.Fans f) h (inr k) = absurd (let z : ⊥ = omega arith in z)
+no_fans s (is.Fans f) h k = absurd (k f refl)
 no_fans s (is.Dose d) h k = h
 no_fans s (is.Refused x) h k = h
 
@@ -67,10 +60,9 @@ pub some_fans : {n : Gathered} {e : Entry} {f : Fans} (s : Gathered) → n ≡ w
 unfolding taken_other
 some_fans s h q = rw (h, q)
 
-pub no_dose_lem : {w : Walked} (s : Gathered) (k : ℕ) (e : Entry) → w ≡ taken_other s e → OneOf (0 ∷ 2 ∷ []) (tag_of the_type e) → w ≡ taken s k e
+pub no_dose_lem : {w : Walked} (s : Gathered) (k : ℕ) (e : Entry) → w ≡ taken_other s e → ((d : Dose) → e ≡ is.Dose d → ⊥) → w ≡ taken s k e
 unfolding taken
-no_dose_lem s i (is.Dose d) h (inl k) = absurd (let z : ⊥ = omega arith in z)
-no_dose_lem s i (is.Dose d) h (inr k) = absurd (let z : ⊥ = omega arith in z)
+no_dose_lem s i (is.Dose d) h k = absurd (k d refl)
 no_dose_lem s i (is.Fans f) h k = h
 no_dose_lem s i (is.Refused x) h k = h
 
