@@ -1,0 +1,13 @@
+use Prim.Native.Nat.{◌-◌}
+use native.Mathlib.Omega.{arith}
+use borrow.Author.Rules.{rules}
+use Rattle.model.specs.Limits.{most_doses}
+use Rattle.class_chains.specs.Chains.{cell, given}
+use Rattle.class_chains.proofs.Laws.{Added, added_none, added_next, added_most, added_all}
+use Rattle.class_chains.proofs.interval_total.Given as goal
+
+abbrev pub invariant-loop-d : goal.invariant-loop-d
+invariant-loop-d l = Added most_doses (λ k. cell l.shares k l.j) l.d l.sum
+
+abbrev pub decreases-loop-d : goal.decreases-loop-d
+decreases-loop-d l = most_doses - l.d
