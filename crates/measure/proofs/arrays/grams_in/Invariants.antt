@@ -1,0 +1,17 @@
+use Prim.Native.Nat.{ℕ, ◌<◌, ◌≤◌, ◌-◌}
+use mathlib.Core.List.{List}
+use mathlib.Core.Path.{◌≡◌, refl}
+use lib.ListN.{length, get_or, length-set}
+use native.Mathlib.Omega.{arith}
+use borrow.Author.Rules.{rules}
+use Rattle.model.specs.Limits.{most_doses}
+use Rattle.order.specs.declared.Order.{Order}
+use Rattle.steps.proofs.Loops.{stored, unreached}
+use Rattle.steps.proofs.Arrays.{all_same}
+use Rattle.measure.proofs.arrays.grams_in.Given as goal
+
+abbrev pub invariant-loop-k : goal.invariant-loop-k
+invariant-loop-k l = (l.k ≤ l.o.count) × GramsTo l.o l.k l.grams
+
+abbrev pub decreases-loop-k : goal.decreases-loop-k
+decreases-loop-k l = l.o.count - l.k

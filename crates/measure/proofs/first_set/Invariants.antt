@@ -1,0 +1,16 @@
+use mathlib.Core.List.{List}
+use mathlib.Core.Path.{◌≡◌, refl}
+use Prim.Native.Nat.{ℕ, ◌-◌, ◌<◌, ◌≤◌, ◌^◌}
+use Rattle.model.specs.Sets.{weight}
+use Rattle.steps.proofs.Bits.{bits_next, bit_most}
+use Rattle.measure.specs.Arrays.{sets_of}
+use Rattle.steps.proofs.Loops.{at_end, weight_none}
+use borrow.Author.Rules.{rules}
+use native.Mathlib.Omega.{arith}
+use Rattle.measure.proofs.first_set.Given as goal
+
+abbrev pub invariant-loop-k : goal.invariant-loop-k
+invariant-loop-k l = (l.k ≤ l.doses) × NumberTo l.numbers l.k l.sum l.bit
+
+abbrev pub decreases-loop-k : goal.decreases-loop-k
+decreases-loop-k l = l.doses - l.k

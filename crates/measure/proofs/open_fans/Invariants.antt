@@ -1,0 +1,17 @@
+use mathlib.Core.List.{List}
+use mathlib.Core.Path.{◌≡◌, refl, ap, ◌∙◌}
+use Prim.Native.Nat.{ℕ, ◌<◌, ◌≤◌, ◌-◌, min}
+use native.Mathlib.Omega.{arith}
+use borrow.Author.Rules.{rules}
+use lib.ListN.{length, get_or, length-set}
+use Rattle.model.specs.Limits.{most_intervals}
+use Rattle.steps.proofs.Arrays.{all_same}
+use Rattle.steps.proofs.Loops.{stored, unreached}
+use Rattle.steps.proofs.Tests.{below_or}
+use Rattle.measure.proofs.open_fans.Given as goal
+
+abbrev pub invariant-loop-j : goal.invariant-loop-j
+invariant-loop-j l = (l.j ≤ l.intervals) × SmallerTo l.counts l.free l.j l.reserved
+
+abbrev pub decreases-loop-j : goal.decreases-loop-j
+decreases-loop-j l = l.intervals - l.j

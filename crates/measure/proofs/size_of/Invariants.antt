@@ -1,0 +1,14 @@
+use Prim.Native.Nat.{◌≤◌, ◌-◌, ◌*◌}
+use mathlib.Core.Path.{◌≡◌}
+use native.Mathlib.Omega.{arith}
+use borrow.Author.Rules.{rules}
+use Rattle.model.specs.Sets.{weight}
+use Rattle.measure.specs.Arrays.{set_of}
+use Rattle.steps.proofs.Loops.{weight_none, weight_step}
+use Rattle.measure.proofs.size_of.Given as goal
+
+abbrev pub invariant-loop-k : goal.invariant-loop-k
+invariant-loop-k l = (l.k ≤ l.doses) × (l.sum ≡ weight l.k (λ i. 1) (set_of l.set)) × (l.sum ≤ l.k * 1)
+
+abbrev pub decreases-loop-k : goal.decreases-loop-k
+decreases-loop-k l = l.doses - l.k

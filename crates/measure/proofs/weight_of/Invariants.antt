@@ -1,0 +1,16 @@
+use Prim.Native.Nat.{ℕ, ◌≤◌, ◌-◌, ◌*◌}
+use mathlib.Core.Path.{◌≡◌, ap, ◌∙◌}
+use mathlib.Core.Bool.{false}
+use lib.ListN.{get_or}
+use native.Mathlib.Omega.{arith}
+use borrow.Author.Rules.{rules}
+use Rattle.model.specs.Sets.{on, weight}
+use Rattle.measure.specs.Arrays.{set_of}
+use Rattle.steps.proofs.Loops.{at_end, weight_none, weight_step}
+use Rattle.measure.proofs.weight_of.Given as goal
+
+abbrev pub invariant-loop-k : goal.invariant-loop-k
+invariant-loop-k l = (l.k ≤ l.doses) × (l.sum ≡ weight l.k (λ i. get_or l.grams i 0) (set_of l.set)) × (l.sum ≤ l.k * 4294967295)
+
+abbrev pub decreases-loop-k : goal.decreases-loop-k
+decreases-loop-k l = l.doses - l.k
