@@ -1,10 +1,10 @@
 -- From the tests that the code made to what they tell. Assumes nothing.
 use mathlib.Core.Path.{◌≡◌, ◌∙◌, refl, sym}
-use mathlib.Core.Bool.{Bool, true, false, not, ◌&&◌}
+use mathlib.Core.Bool.{Bool, true, false, ◌&&◌}
 use mathlib.Core.List.{List}
 use Prim.Native.Nat.{ℕ, ◌<◌, ◌≤◌}
 use native.Mathlib.Omega.{arith}
-use borrow.Author.Tests.{eqb-true, eqb-false, leb-true, leb-false, ltb-true, ltb-false, not-true, not-false}
+use borrow.Author.Tests.{eqb-true, eqb-false, leb-true, leb-false, ltb-true, ltb-false}
 use lib.Dec.{eqb, leb, ltb}
 use Rattle.model.specs.Records.{record_at}
 use Rattle.records.specs.Plan.{is_class, is_slot}
@@ -17,12 +17,12 @@ module _ {P : Type 0} where
   pub tells_off : (P → ⊥) → Tells false P
   tells_off f = record { yes = λ e. let z : ◌≡◌ {A = ℕ} 0 1 = cc in absurd (omega arith); no = λ e. f }
 
-  -- a test asked as `!r`
-  pub tells_not : {r : Bool} → Tells r P → not r ≡ true → P → ⊥
-  tells_not {r} t e = t.no (not-true r e)
+  -- a test that the code made
+  pub tells_not : {r : Bool} → Tells r P → r ≡ false → P → ⊥
+  tells_not {r} t e = t.no e
 
-  pub tells_was : {r : Bool} → Tells r P → not r ≡ false → P
-  tells_was {r} t e = t.yes (not-false r e)
+  pub tells_was : {r : Bool} → Tells r P → r ≡ true → P
+  tells_was {r} t e = t.yes e
 
   -- the last test decides
   pub tells_leb : (a b : ℕ) → (a ≤ b → P) → (P → a ≤ b) → Tells (leb a b) P

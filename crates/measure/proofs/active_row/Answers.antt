@@ -1,7 +1,7 @@
 -- `active_row` meets its contract: every interval has the number of active doses of the set so far.
-use mathlib.Core.Bool.{Bool, true, false, not}
+use mathlib.Core.Bool.{Bool, true, false}
 use mathlib.Core.List.{List}
-use mathlib.Core.Path.{◌≡◌, refl, ◌∙◌}
+use mathlib.Core.Path.{◌≡◌, refl, sym, ◌∙◌}
 use Prim.Native.Nat.{ℕ, ◌-◌, ◌<◌, ◌≤◌}
 use native.Mathlib.Omega.{arith}
 use borrow.Author.Rules.{rules}
@@ -16,23 +16,8 @@ use Rattle.measure.specs.Measure.{count_in}
 use Rattle.measure.proofs.active_row.Goals as goal
 
 -- 1 where dose k is active in interval j
-active_at : List ℕ → List ℕ → List ℕ → ℕ → ℕ → ℕ
+abbrev active_at : List ℕ → List ℕ → List ℕ → ℕ → ℕ → ℕ
 active_at release deadline instants j k = on (reaches release deadline instants k j) 1
-
--- both ways of the test
-outside-if : (b : Bool) → not b ≡ true → false ≡ b
-outside-if true e = e
-outside-if false e = refl
-
-inside-if : (b : Bool) → not b ≡ false → true ≡ b
-inside-if true e = refl
-inside-if false e = e
-
--- the first k doses are counted
-pub record CountedTo (release deadline instants : List ℕ) (set : List Bool) (J k : ℕ) (counts : List ℕ) : Type 0 where
-  pub size : length counts ≡ most_intervals
-  pub active : (j : ℕ) → j < J → get_or counts j 0 ≡ count_in release deadline instants k set j
-  pub few : (j : ℕ) → j < J → get_or counts j 0 ≤ k
 
 pub loop-k-init : goal.loop-k-init
 loop-k-init c = (
@@ -46,11 +31,11 @@ loop-k-preserved-then-not-set-k c =
     let A = c.args in
     let L = c.loop-k in
     let so = L.invariant.1 in
-    let outside : false ≡ set_of A.t6 L.k = outside-if _ c.if-not-set-k.true in (
+    let outside : false ≡ set_of A.set L.k = sym c.if-not-set-k.true in (
       omega arith,
       record {
         size = so.size;
-        active = λ j l. omega (arith, so.active j l, weight_more (active_at A.release.now A.deadline.now A.instants.now j) (set_of A.t6) L.k _ 0 _ false (so.active j l) refl outside refl);
+        active = λ j l. omega (arith, so.active j l, weight_more (active_at A.release.now A.deadline.now A.instants.now j) (set_of A.set) L.k _ 0 _ false (so.active j l) refl outside refl);
         few = λ j l. omega (arith, so.few j l);
       },
     )
@@ -67,11 +52,11 @@ loop-k-preserved c =
     let L = c.loop-k in
     let so = L.invariant.1 in
     let more = c.count_dose.ensures in
-    let inside : true ≡ set_of A.t6 L.k = inside-if _ c.if-not-set-k.false in (
+    let inside : true ≡ set_of A.set L.k = sym c.if-not-set-k.false in (
       omega arith,
       record {
         size = more.0;
-        active = λ j l. more.1 j l ∙ weight_more (active_at A.release.now A.deadline.now A.instants.now j) (set_of A.t6) L.k _ _ _ true (so.active j l) refl inside refl;
+        active = λ j l. more.1 j l ∙ weight_more (active_at A.release.now A.deadline.now A.instants.now j) (set_of A.set) L.k _ _ _ true (so.active j l) refl inside refl;
         few = λ j l. omega (arith, more.1 j l, so.few j l, on_most (reaches A.release.now A.deadline.now A.instants.now L.k j) _ 1 1 refl (omega arith));
       },
     )
@@ -82,6 +67,6 @@ returns c =
     let L = c.loop-k in
     let so = L.invariant.1 in
     λ j l. (
-      at_end (λ (k : ℕ). get_or L.counts j 0 ≡ count_in A.release.now A.deadline.now A.instants.now k A.t6 j) (omega arith) (so.active j l),
+      at_end (λ (k : ℕ). get_or L.counts j 0 ≡ count_in A.release.now A.deadline.now A.instants.now k A.set j) (omega arith) (so.active j l),
       omega (arith, so.few j l),
     )

@@ -10,17 +10,8 @@ use Rattle.model.specs.Limits.{most_intervals}
 use Rattle.model.specs.Sets.{on}
 use Rattle.measure.specs.Arrays.{in_window}
 use Rattle.steps.proofs.Loops.{stored, unreached}
+use Rattle.measure.proofs.count_dose.Invariants.{counted}
 use Rattle.measure.proofs.count_dose.Goals as goal
-
--- the count of interval m with the dose
-counted : List ℕ → ℕ → ℕ → List ℕ → ℕ → ℕ
-counted before release deadline instants m = get_or before m 0 + on (in_window release deadline instants m) 1
-
--- up to interval j the dose is counted
-pub record CountedTo (before : List ℕ) (release deadline : ℕ) (instants counts : List ℕ) (j : ℕ) : Type 0 where
-  pub size : length counts ≡ most_intervals
-  pub passed : (m : ℕ) → m < j → get_or counts m 0 ≡ counted before release deadline instants m
-  pub ahead : (m : ℕ) → j ≤ m → get_or counts m 0 ≡ get_or before m 0
 
 pub loop-j-init : goal.loop-j-init
 loop-j-init c = (omega arith, record { size = c.requires.0; passed = λ m h. absurd (omega arith); ahead = λ m h. refl })

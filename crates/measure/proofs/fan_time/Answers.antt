@@ -40,4 +40,4 @@ pub returns : goal.returns
 returns c =
     let A = c.args in
     let L = c.loop-j in
-    at_end (λ (j : ℕ). L.sum ≡ sets.sum j (λ i. len_of A.instants.now i * get_or A.t3 i 0)) (omega arith) L.invariant.1
+    at_end (λ (j : ℕ). L.sum ≡ sets.sum j (λ i. len_of A.instants.now i * get_or A.reserved i 0)) (omega arith) L.invariant.1

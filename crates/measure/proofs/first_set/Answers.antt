@@ -10,12 +10,6 @@ use borrow.Author.Rules.{rules}
 use native.Mathlib.Omega.{arith}
 use Rattle.measure.proofs.first_set.Goals as goal
 
--- of the first k doses: the set's number, and the next bit above it
-pub record NumberTo (numbers : List ℕ) (k sum bit : ℕ) : Type 0 where
-  pub number : sum ≡ weight k (λ i. 2 ^ i) (sets_of numbers 0)
-  pub next : bit ≡ 2 ^ k
-  pub below : sum < bit
-
 pub loop-k-init : goal.loop-k-init
 loop-k-init c = (omega arith, record { number = weight_none _ _; next = refl; below = omega arith })
 

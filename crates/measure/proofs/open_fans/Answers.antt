@@ -11,12 +11,6 @@ use Rattle.steps.proofs.Loops.{stored, unreached}
 use Rattle.steps.proofs.Tests.{below_or}
 use Rattle.measure.proofs.open_fans.Goals as goal
 
--- up to interval j the smaller is taken
-pub record SmallerTo (counts free : List ℕ) (j : ℕ) (reserved : List ℕ) : Type 0 where
-  pub size : length reserved ≡ most_intervals
-  pub passed : (m : ℕ) → m < j → get_or reserved m 0 ≡ min (get_or counts m 0) (get_or free m 0)
-  pub ahead : (m : ℕ) → j ≤ m → get_or reserved m 0 ≡ 0
-
 pub loop-j-init : goal.loop-j-init
 loop-j-init c = (omega arith, record { size = refl; passed = λ m h. absurd (omega arith); ahead = λ m h. all_same {A = ℕ} most_intervals m 0 })
 
@@ -29,7 +23,7 @@ loop-j-preserved c =
       omega arith,
       record {
         size = simp length-set so.size;
-        passed = stored 0 (λ m. min (get_or counts m 0) (get_or A.t7 m 0)) L.reserved L.j _ (omega (arith, so.size)) so.passed c.smaller.ensures;
+        passed = stored 0 (λ m. min (get_or counts m 0) (get_or A.free m 0)) L.reserved L.j _ (omega (arith, so.size)) so.passed c.smaller.ensures;
         ahead = unreached 0 (λ m. 0) L.reserved L.j _ so.ahead;
       },
     )
@@ -41,7 +35,7 @@ returns c =
     let counted = c.active_row-counts.ensures in
     let so = c.loop-j.invariant.1 in
     record {
-      smaller = λ j l. so.passed j (omega arith) ∙ ap (λ (n : ℕ). min n (get_or A.t7 j 0)) (counted j l).0;
+      smaller = λ j l. so.passed j (omega arith) ∙ ap (λ (n : ℕ). min n (get_or A.free j 0)) (counted j l).0;
       none = λ j g. so.ahead j (omega arith);
       small = λ j. below_or j A.intervals (λ l. omega (arith, so.passed j (omega arith), (counted j l).1)) (λ g. omega (arith, so.ahead j (omega arith)));
     }

@@ -15,14 +15,14 @@ pub overflow_add-sum : goal.overflow_add-sum
 overflow_add-sum c =
     let A = c.args in
     let L = c.loop-k in
-    let w = weight_step 1 L.k L.sum c.on-sum.result (λ i. 1) (set_of A.t2) L.invariant.1 L.invariant.2 c.on-sum.ensures.0 (omega arith) in
+    let w = weight_step 1 L.k L.sum c.on-sum.result (λ i. 1) (set_of A.set) L.invariant.1 L.invariant.2 c.on-sum.ensures.0 (omega arith) in
     omega (arith, w.1)
 
 pub loop-k-preserved : goal.loop-k-preserved
 loop-k-preserved c =
     let A = c.args in
     let L = c.loop-k in
-    let w = weight_step 1 L.k L.sum c.on-sum.result (λ i. 1) (set_of A.t2) L.invariant.1 L.invariant.2 c.on-sum.ensures.0 (omega arith) in
+    let w = weight_step 1 L.k L.sum c.on-sum.result (λ i. 1) (set_of A.set) L.invariant.1 L.invariant.2 c.on-sum.ensures.0 (omega arith) in
     (omega arith, w.0, w.1)
 
 pub returns : goal.returns

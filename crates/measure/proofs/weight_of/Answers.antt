@@ -21,12 +21,12 @@ loop-k-preserved c =
     let A = c.args in
     let L = c.loop-k in
     let read = c.wide.ensures in
-    let here = c.on-sum.ensures.0 ∙ ap (on (get_or A.t3 L.k false)) read.0 in
-    let next = weight_step 4294967295 L.k L.sum c.on-sum.result (λ i. get_or A.grams.now i 0) (set_of A.t3) L.invariant.1 L.invariant.2 here (omega (arith, read.0, read.1)) in
+    let here = c.on-sum.ensures.0 ∙ ap (on (get_or A.set L.k false)) read.0 in
+    let next = weight_step 4294967295 L.k L.sum c.on-sum.result (λ i. get_or A.grams.now i 0) (set_of A.set) L.invariant.1 L.invariant.2 here (omega (arith, read.0, read.1)) in
     (omega arith, next.0, next.1)
 
 pub returns : goal.returns
 returns c =
     let A = c.args in
     let L = c.loop-k in
-    at_end (λ (k : ℕ). L.sum ≡ weight k (λ i. get_or A.grams.now i 0) (set_of A.t3)) (omega arith) L.invariant.1
+    at_end (λ (k : ℕ). L.sum ≡ weight k (λ i. get_or A.grams.now i 0) (set_of A.set)) (omega arith) L.invariant.1

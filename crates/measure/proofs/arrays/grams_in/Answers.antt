@@ -11,12 +11,6 @@ use Rattle.steps.proofs.Loops.{stored, unreached}
 use Rattle.steps.proofs.Arrays.{all_same}
 use Rattle.measure.proofs.arrays.grams_in.Goals as goal
 
--- the first k doses have their grams, and the places behind have none
-pub record GramsTo (o : Order) (k : ℕ) (grams : List ℕ) : Type 0 where
-  pub size : length grams ≡ most_doses
-  pub doses : (m : ℕ) → m < k → get_or grams m 0 ≡ get_or o.grams m 0
-  pub ahead : (m : ℕ) → k ≤ m → get_or grams m 0 ≡ 0
-
 pub loop-k-init : goal.loop-k-init
 loop-k-init c = (omega arith, record { size = refl; doses = λ m h. absurd (omega arith); ahead = λ m h. all_same {A = ℕ} most_doses m 0 })
 
@@ -28,7 +22,7 @@ loop-k-preserved c =
       omega arith,
       record {
         size = simp length-set so.size;
-        doses = stored 0 (λ m. get_or A.t1.grams m 0) L.grams L.k _ (omega (arith, so.size)) so.doses refl;
+        doses = stored 0 (λ m. get_or A.o.grams m 0) L.grams L.k _ (omega (arith, so.size)) so.doses refl;
         ahead = unreached 0 (λ m. 0) L.grams L.k _ so.ahead;
       },
     )

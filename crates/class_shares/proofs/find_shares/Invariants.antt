@@ -1,0 +1,16 @@
+use Prim.Native.Nat.{◌≤◌, ◌-◌}
+use mathlib.Core.Path.{◌≡◌}
+use lib.ListN.{length}
+use native.Mathlib.Omega.{arith}
+use borrow.Author.Rules.{rules}
+use Rattle.model.specs.Limits.{cells, most_doses}
+use Rattle.class_chains.proofs.Laws.{sized_now}
+use Rattle.class_shares.specs.Share.{Within}
+use Rattle.class_shares.proofs.Laws.{within_none}
+use Rattle.class_shares.proofs.find_shares.Given as goal
+
+abbrev pub invariant-loop-i : goal.invariant-loop-i
+invariant-loop-i l = (l.i ≤ most_doses) × (length l.shares ≡ cells) × Within l.rooms l.holds l.needs l.shares
+
+abbrev pub decreases-loop-i : goal.decreases-loop-i
+decreases-loop-i l = most_doses - l.i

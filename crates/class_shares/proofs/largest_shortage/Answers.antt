@@ -1,0 +1,10 @@
+-- `largest_shortage` meets its contract.
+use Prim.Native.Nat.{◌≤◌, ◌-◌}
+use borrow.Author.Rules.{rules}
+use Rattle.model.specs.Limits.{most_doses}
+use Rattle.class_shares.proofs.largest_shortage.Goals as goal
+
+pub dose_total-requires : goal.dose_total-requires
+dose_total-requires c =
+    let asked = c.requires in
+    (asked.0, c.loop-k-test.true, asked.2 _ c.loop-k-test.true)
