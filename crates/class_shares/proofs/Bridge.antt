@@ -26,6 +26,7 @@ true_T : {b : Bool} → b ≡ true → T b
 true_T e = rw e tt
 
 T_true : (b : Bool) → T b → b ≡ true
+T_true false t = elim t [ ]
 T_true true t = refl
 
 module _ (S : Setting) (row : Row) (A : Doses) (rooms holds needs : List ℕ) where

@@ -10,10 +10,6 @@ use Rattle.class_shares.specs.Share.{Within}
 use Rattle.class_shares.proofs.Laws.{within_none}
 use Rattle.class_shares.proofs.find_shares.Goals as goal
 
--- back from the loop's test to the entry
-abbrev entry : goal.At-loop-i invariant-loop decreases-loop → goal.Start invariant-loop decreases-loop
-entry loop = loop.before.before.before.before.before.before.before.before.before
-
 pub clear-requires : goal.clear-requires
 clear-requires c = c.requires.0.shares
 
@@ -22,7 +18,7 @@ loop-i-init c = (omega arith, (search rules), within_none c.clear.ensures)
 
 pub first_shares-requires : goal.first_shares-requires
 first_shares-requires c =
-    let asked = (entry c).requires in
+    let asked = c.requires in
     (sized_now asked.0 c.loop-i.invariant.1, c.loop-i.invariant.2, asked.1)
 
 pub loop-i-preserved : goal.loop-i-preserved
@@ -30,12 +26,12 @@ loop-i-preserved c = (omega arith, (search rules), c.first_shares.ensures)
 
 pub largest_shortage-top-requires : goal.largest_shortage-top-requires
 largest_shortage-top-requires c =
-    let asked = (entry c).requires in
+    let asked = c.requires in
     (c.loop-i.invariant.1, asked.1, c.loop-i.invariant.2.needed)
 
 pub raise-requires : goal.raise-requires
 raise-requires c =
-    let asked = (entry c).requires in
+    let asked = c.requires in
     (sized_now asked.0 c.loop-i.invariant.1, c.loop-i.invariant.2, asked.1, c.largest_shortage-top.ensures)
 
 pub shape_of-shares : goal.shape_of-shares
