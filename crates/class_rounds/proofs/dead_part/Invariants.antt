@@ -1,0 +1,16 @@
+use Prim.Native.Nat.{◌-◌}
+use mathlib.Core.Path.{refl}
+use mathlib.Core.Bool.{false, ◌&&◌}
+use lib.ListN.{get_or}
+use native.Mathlib.Omega.{arith}
+use borrow.Author.Rules.{rules}
+use Rattle.model.specs.Limits.{most_doses}
+use Rattle.class_rounds.proofs.Laws.{marks_both}
+use Rattle.steps.proofs.Loops.{DoneTo, done_none, done_next, done_all}
+use Rattle.class_rounds.proofs.dead_part.Given as goal
+
+abbrev pub invariant-loop-k : goal.invariant-loop-k
+invariant-loop-k l = DoneTo false most_doses (λ m. get_or l.dead m false && get_or l.set m false) l.k l.part
+
+abbrev pub decreases-loop-k : goal.decreases-loop-k
+decreases-loop-k l = most_doses - l.k

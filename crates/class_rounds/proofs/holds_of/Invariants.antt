@@ -1,0 +1,15 @@
+use Prim.Native.Nat.{◌-◌, ◌*◌}
+use mathlib.Core.Path.{refl}
+use lib.ListN.{get_or}
+use native.Mathlib.Omega.{arith}
+use borrow.Author.Rules.{rules}
+use native.Mathlib.Nat.{mul-le-mul}
+use Rattle.model.specs.Limits.{most_intervals}
+use Rattle.steps.proofs.Loops.{DoneTo, done_none, done_next, done_all}
+use Rattle.class_rounds.proofs.holds_of.Given as goal
+
+abbrev pub invariant-loop-j : goal.invariant-loop-j
+invariant-loop-j l = DoneTo 0 most_intervals (λ m. get_or l.reserved m 0 * (get_or l.lens m 0 * l.w)) l.j l.holds
+
+abbrev pub decreases-loop-j : goal.decreases-loop-j
+decreases-loop-j l = most_intervals - l.j

@@ -1,0 +1,59 @@
+-- `lay_class` meets its contract: the shares of the doses passed are laid end to end, and `a` is their sum (Shares).
+use mathlib.Core.Path.{◌≡◌, refl}
+use Prim.Native.Nat.{◌≤◌, ◌-◌}
+use native.Mathlib.Omega.{arith}
+use lib.ListN.{length}
+use Rattle.plan_layout.specs.Held.{as_lane, share_at}
+use Rattle.plan_layout.proofs.Arrays.{share_is}
+use Rattle.plan_layout.proofs.Shares.{Kept, kept_none, kept_more, room_at, sum_at, laid_all}
+use Rattle.plan_layout.proofs.lay_class.Goals as goal
+
+-- what was read is the share of dose k
+share : (c : tie.After-share-of invariant-loop decreases-loop) →
+    let turn = c.before.before.before in
+    let A = turn.before.before.before.args in
+    c.share-of.result ≡ share_at A.t4 A.shares.now A.i turn.loop.k A.j
+share c =
+    let turn = c.before.before.before in
+    let A = turn.before.before.before.args in
+    share_is A.t4 A.shares.now A.i turn.loop.k A.j c.share-of.ensures
+
+pub loop-k-init : goal.loop-k-init
+loop-k-init c = (omega arith, refl, kept_none _ _ _ _)
+
+pub offset_bounds-t-k : goal.offset_bounds-t-k
+offset_bounds-t-k c = omega arith
+
+pub bounds-t-k : goal.bounds-t-k
+bounds-t-k c = omega arith
+
+pub share_of-share-requires : goal.share_of-share-requires
+share_of-share-requires c = omega arith
+
+pub overflow_cast-k : goal.overflow_cast-k
+overflow_cast-k c = omega arith
+
+pub lay_share-at-requires : goal.lay_share-at-requires
+lay_share-at-requires c =
+    room_at _ _ c.requires.0 c.loop-k.invariant.2 (omega arith) (omega arith) (share c)
+
+pub overflow_add-a : goal.overflow_add-a
+overflow_add-a c =
+    omega (arith, sum_at _ _ c.requires.0 c.loop-k.invariant.2 (omega arith) (share c))
+
+pub overflow_add-k : goal.overflow_add-k
+overflow_add-k c = omega arith
+
+pub loop-k-smaller : goal.loop-k-smaller
+loop-k-smaller c = omega arith
+
+pub loop-k-preserved : goal.loop-k-preserved
+loop-k-preserved c =
+    (omega arith, omega arith, kept_more _ _ c.loop-k.invariant.2 (share c) c.lay_share-at.ensures)
+
+pub shape_of-b : goal.shape_of-b
+shape_of-b c = c.loop-k.invariant.1
+
+pub returns : goal.returns
+returns c =
+    laid_all _ _ c.requires.0 c.loop-k.invariant.2 (omega arith)
