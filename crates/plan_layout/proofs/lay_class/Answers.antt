@@ -8,16 +8,6 @@ use Rattle.plan_layout.proofs.Arrays.{share_is}
 use Rattle.plan_layout.proofs.Shares.{Kept, kept_none, kept_more, room_at, sum_at, laid_all}
 use Rattle.plan_layout.proofs.lay_class.Goals as goal
 
--- what was read is the share of dose k
-share : (c : tie.After-share-of invariant-loop decreases-loop) →
-    let turn = c.before.before.before in
-    let A = turn.before.before.before.args in
-    c.share-of.result ≡ share_at A.t4 A.shares.now A.i turn.loop.k A.j
-share c =
-    let turn = c.before.before.before in
-    let A = turn.before.before.before.args in
-    share_is A.t4 A.shares.now A.i turn.loop.k A.j c.share-of.ensures
-
 pub loop-k-init : goal.loop-k-init
 loop-k-init c = (omega arith, refl, kept_none _ _ _ _)
 
@@ -35,11 +25,11 @@ overflow_cast-k c = omega arith
 
 pub lay_share-at-requires : goal.lay_share-at-requires
 lay_share-at-requires c =
-    room_at _ _ c.requires.0 c.loop-k.invariant.2 (omega arith) (omega arith) (share c)
+    room_at _ _ c.requires.0 c.loop-k.invariant.2 (omega arith) (omega arith) (share_is c.args.t c.args.shares.now c.args.i c.loop-k.k c.args.j c.share_of-share.ensures)
 
 pub overflow_add-a : goal.overflow_add-a
 overflow_add-a c =
-    omega (arith, sum_at _ _ c.requires.0 c.loop-k.invariant.2 (omega arith) (share c))
+    omega (arith, sum_at _ _ c.requires.0 c.loop-k.invariant.2 (omega arith) (share_is c.args.t c.args.shares.now c.args.i c.loop-k.k c.args.j c.share_of-share.ensures))
 
 pub overflow_add-k : goal.overflow_add-k
 overflow_add-k c = omega arith
@@ -49,7 +39,7 @@ loop-k-smaller c = omega arith
 
 pub loop-k-preserved : goal.loop-k-preserved
 loop-k-preserved c =
-    (omega arith, omega arith, kept_more _ _ c.loop-k.invariant.2 (share c) c.lay_share-at.ensures)
+    (omega arith, omega arith, kept_more _ _ c.loop-k.invariant.2 (share_is c.args.t c.args.shares.now c.args.i c.loop-k.k c.args.j c.share_of-share.ensures) c.lay_share-at.ensures)
 
 pub shape_of-b : goal.shape_of-b
 shape_of-b c = c.loop-k.invariant.1

@@ -8,26 +8,18 @@ use Rattle.model.specs.Limits.{most_doses, most_intervals}
 use Rattle.plan_layout.proofs.Arrays.{Rising, rising_none, rising_more, rooms_at, below_at, interval_all}
 use Rattle.plan_layout.proofs.lay_interval.Goals as goal
 
--- class i and interval j are places of the arrays
-in-arrays : (c : goal.In-loop-i invariant-loop decreases-loop) →
-    let turn = c.before.before in
-    (turn.loop.i < most_doses) × (turn.before.before.before.args.j < most_intervals)
-in-arrays c =
-    let filled = c.before.before.before.before.before.requires.0 in
-    (omega (arith, filled.classes), omega (arith, filled.intervals))
-
 pub loop-i-init : goal.loop-i-init
 loop-i-init c = (omega arith, refl, rising_none _ _ _ _ _ _)
 
 pub lane_of-requires : goal.lane_of-requires
 lane_of-requires c =
-    let inside = in-arrays c in
+    let inside : (c.loop-i.i < most_doses) × (c.args.j < most_intervals) = (omega (arith, c.requires.0.classes), omega (arith, c.requires.0.intervals)) in
     (inside.0, inside.1, le_of_lt (c.requires.0.wide _ c.requires.1))
 
 pub lay_class-at-requires : goal.lay_class-at-requires
 lay_class-at-requires c =
     let filled = c.requires.0 in
-    let inside = in-arrays c in (
+    let inside : (c.loop-i.i < most_doses) × (c.args.j < most_intervals) = (omega (arith, c.requires.0.classes), omega (arith, c.requires.0.intervals)) in (
       rooms_at filled c.loop-i.invariant.2 c.requires.1 (omega arith) c.requires.2 (omega arith) c.lane_of.ensures,
       filled.doses,
       inside.0,
@@ -36,13 +28,13 @@ lay_class-at-requires c =
     )
 
 pub offset_bounds-reserved-i : goal.offset_bounds-reserved-i
-offset_bounds-reserved-i c = omega (arith, in-arrays c)
+offset_bounds-reserved-i c = omega (arith, c.requires.0.classes, c.requires.0.intervals)
 
 pub bounds-reserved-i : goal.bounds-reserved-i
-bounds-reserved-i c = omega (arith, in-arrays c)
+bounds-reserved-i c = omega (arith, c.requires.0.classes, c.requires.0.intervals)
 
 pub bounds-reserved-j : goal.bounds-reserved-j
-bounds-reserved-j c = omega (arith, in-arrays c)
+bounds-reserved-j c = omega (arith, c.requires.0.classes, c.requires.0.intervals)
 
 pub of_byte-below-requires : goal.of_byte-below-requires
 of_byte-below-requires c = tt

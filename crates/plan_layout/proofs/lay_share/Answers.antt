@@ -10,37 +10,23 @@ use Rattle.plan_layout.proofs.Shares.{Small, laid_none, laid_one, laid_two, room
 use borrow.Author.Rules.{rules}
 use Rattle.plan_layout.proofs.lay_share.Goals as goal
 
--- how large the numbers are of a share that is not 0
-numbers : (c : tie.After-struct-known2) →
-    let A = c.before.before.before.before.args in
-    Small (as_lane A.l) A.a A.x
-numbers c = small c.before.before.before.before.requires
-
--- room for the two records of a share that is cut
-room : (c : goal.Else-low-x) →
-    let A = c.before.before.before.before.before.args in
-    record_size * A.r + 64 ≤ length A.b.now
-room c =
-    let some = c.before.before.before in
-    room_two some.before.before.requires some.if1.false c.if2.false
-
 pub returns-then-x-eq0 : goal.returns-then-x-eq0
 returns-then-x-eq0 c =
     let A = c.args in
     laid_none (as_lane A.l) A.dose A.a A.x A.r _ c.if-x-eq0.true
 
 pub overflow_mul-c : goal.overflow_mul-c
-overflow_mul-c c = omega (arith, numbers c)
+overflow_mul-c c = omega (arith, small c.requires)
 
 pub overflow_add-low : goal.overflow_add-low
-overflow_add-low c = omega (arith, numbers c)
+overflow_add-low c = omega (arith, small c.requires)
 
 pub overflow_add-low-then-low-x : goal.overflow_add-low-then-low-x
-overflow_add-low-then-low-x c = omega (arith, numbers c)
+overflow_add-low-then-low-x c = omega (arith, small c.requires)
 
 pub slot_of-requires : goal.slot_of-requires
 slot_of-requires c =
-    let n = numbers c in
+    let n = small c.requires in
     (n.ready, omega arith, omega arith, omega (arith, c.if-low-x.true))
 
 pub put_slot-requires : goal.put_slot-requires
@@ -53,32 +39,32 @@ returns-then-low-x c =
     laid_one (as_lane A.l) A.dose A.a A.x A.r _ c.if-x-eq0.false c.if-low-x.true c.slot_of.ensures c.put_slot.ensures
 
 pub overflow_add-next : goal.overflow_add-next
-overflow_add-next c = omega (arith, room c)
+overflow_add-next c = omega (arith, room_two c.requires c.if-x-eq0.false c.if-low-x.false)
 
 pub slot_of-requires-2 : goal.slot_of-requires-2
 slot_of-requires-2 c =
-    let n = numbers c in
+    let n = small c.requires in
     (n.ready, omega arith, omega arith, omega (arith, c.if-low-x.false))
 
 pub put_slot-requires-2 : goal.put_slot-requires-2
-put_slot-requires-2 c = omega (arith, room c)
+put_slot-requires-2 c = omega (arith, room_two c.requires c.if-x-eq0.false c.if-low-x.false)
 
 pub overflow_add-fan : goal.overflow_add-fan
 overflow_add-fan c =
-    omega (arith, numbers c)
+    omega (arith, small c.requires)
 
 pub overflow_add-low-2 : goal.overflow_add-low-2
 overflow_add-low-2 c =
-    omega (arith, numbers c)
+    omega (arith, small c.requires)
 
 pub slot_of-requires-3 : goal.slot_of-requires-3
 slot_of-requires-3 c =
-    let n = numbers c in
+    let n = small c.requires in
     (n.ready, omega arith, omega arith, omega (arith, c.if-low-x.false))
 
 pub put_slot-requires-3 : goal.put_slot-requires-3
 put_slot-requires-3 c =
-    omega (arith, room c, ap length c.put_slot-2.ensures ∙ length_written _ _ _)
+    omega (arith, room_two c.requires c.if-x-eq0.false c.if-low-x.false, ap length c.put_slot-2.ensures ∙ length_written _ _ _)
 
 pub returns : goal.returns
 returns c =

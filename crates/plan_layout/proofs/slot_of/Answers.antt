@@ -10,28 +10,21 @@ use Rattle.plan_layout.proofs.Shares.{tick}
 use borrow.Author.Rules.{rules}
 use Rattle.plan_layout.proofs.slot_of.Goals as goal
 
--- both moments are in the week
-start-tick : (c : goal.Start) → c.args.l.start + c.args.low / c.args.l.weight ≤ week
-start-tick c = tick (as_lane c.args.l) c.requires.0 c.args.low c.requires.2
-
-end-tick : (c : goal.Start) → c.args.l.start + c.args.high / c.args.l.weight ≤ week
-end-tick c = tick (as_lane c.args.l) c.requires.0 c.args.high c.requires.3
-
 pub overflow_cast-result-2 : goal.overflow_cast-result-2
-overflow_cast-result-2 c = omega (arith, start-tick c)
+overflow_cast-result-2 c = omega (arith, tick (as_lane c.args.l) c.requires.0 c.args.low c.requires.2)
 
 pub overflow_add-result-3 : goal.overflow_add-result-3
-overflow_add-result-3 c = omega (arith, start-tick c)
+overflow_add-result-3 c = omega (arith, tick (as_lane c.args.l) c.requires.0 c.args.low c.requires.2)
 
 pub overflow_cast-result-3 : goal.overflow_cast-result-3
 overflow_cast-result-3 c =
     omega (arith, mod-lt c.args.low c.requires.0.heavy)
 
 pub overflow_cast-result-4 : goal.overflow_cast-result-4
-overflow_cast-result-4 c = omega (arith, end-tick c)
+overflow_cast-result-4 c = omega (arith, tick (as_lane c.args.l) c.requires.0 c.args.high c.requires.3)
 
 pub overflow_add-result-4 : goal.overflow_add-result-4
-overflow_add-result-4 c = omega (arith, end-tick c)
+overflow_add-result-4 c = omega (arith, tick (as_lane c.args.l) c.requires.0 c.args.high c.requires.3)
 
 pub overflow_cast-result-5 : goal.overflow_cast-result-5
 overflow_cast-result-5 c =

@@ -1,0 +1,14 @@
+use Prim.Native.Nat.{◌+◌, ◌≤◌, ◌-◌, ◌*◌}
+use mathlib.Core.Path.{◌≡◌, ◌∙◌}
+use native.Mathlib.Omega.{arith}
+use borrow.Author.Rules.{rules}
+use Rattle.model.specs.Sets.{sum}
+use Rattle.steps.proofs.Loops.{sum_none, sum_step}
+use Rattle.classes.specs.Phase.{row_at}
+use Rattle.classes.proofs.table.reserved_before.Given as goal
+
+abbrev pub invariant-loop-i : goal.invariant-loop-i
+invariant-loop-i l = (l.i ≤ l.classes) × (l.sum ≡ sum l.i (λ l. row_at l.table l l.j)) × (l.sum ≤ l.i * 255)
+
+abbrev pub decreases-loop-i : goal.decreases-loop-i
+decreases-loop-i l = l.classes - l.i
