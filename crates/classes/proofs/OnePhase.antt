@@ -113,6 +113,7 @@ module _ (n J : ℕ) (active : List Bool) (lens grams : List ℕ) (F : Row) (few
         of_member k l q u = go (A k) u (number k q)
           where
             go : (b : Bool) → T b → get_or t'.numbers k 0 ≡ choose b (i + 1) (get_or t.numbers k 0) → C' l k ≡ eqb (i + 1) (l + 1)
+            go false u e = elim u [ ]
             go true u e = ap (λ (m : ℕ). eqb m (l + 1)) e
 
         of_other : (k l : ℕ) → k < n → (T (A k) → ⊥) → C' l k ≡ C l k
@@ -205,6 +206,7 @@ module _ (n J : ℕ) (active : List Bool) (lens grams : List ℕ) (F : Row) (few
         share_member k j q m u = go (A k) u (share_at_lem k j q m)
           where
             go : (b : Bool) → T b → cell shares' k j ≡ choose b (cell x k j) (cell shares k j) → cell shares' k j ≡ cell x k j
+            go false u e = elim u [ ]
             go true u e = e
 
         shares_below : (l k j : ℕ) → l < i → k < n → j < J → shares_in t shares l k j ≡ shares_in t' shares' l k j
@@ -253,7 +255,7 @@ module _ (n J : ℕ) (active : List Bool) (lens grams : List ℕ) (F : Row) (few
           no_weight = λ l g. after.other_weight l (λ e. omega (arith, after.class)) ∙ so.past.no_weight l (omega (arith, after.class));
           no_time = λ l g. after.other_time l (λ e. omega (arith, after.class)) ∙ so.past.no_time l (omega (arith, after.class));
           no_row = λ l j g. row.others l j (λ e. omega (arith, after.class)) ∙ so.past.no_row l j (omega (arith, after.class));
-          no_column = λ l j q g h. each_class (λ l. row_at table' l j ≡ 0) (row.own_val j h ∙ measured.no_fans j g h)
+          no_column = λ l j q g h. each_class (λ l. row_at table' l j ≡ 0) (row.own j h ∙ measured.no_fans j g h)
               (λ l m. row.others l j (λ e. omega arith) ∙ so.past.no_column l j m g h) l q;
           no_dose_lem = λ k j g l q. cell_at k j l q ∙ ap (λ (b : Bool). choose b (cell x k j) (cell shares k j)) (chosen.past k g l) ∙ so.past.no_dose_lem k j g l q;
           no_interval = λ k j l g q. cell_at k j l q ∙ none_of (A k) (chosen.none k j l q (quiet k j l g q)) (so.past.no_interval k j l g q);
@@ -272,7 +274,7 @@ module _ (n J : ℕ) (active : List Bool) (lens grams : List ℕ) (F : Row) (few
           weight = each_class (λ l. get_or t'.weight l 0 ≡ W S (C' l)) (after.weight ∙ measured.weight ∙ weight_alike n _ A (C' i) alike_here) weight_below;
           time = each_class (λ l. get_or t'.time l 0 ≡ class_p S F C' l) (after.time ∙ measured.time ∙ time_as (row_of free-row) (free S F C' i) rows' A (C' i) alike_here) time_below;
           rows = λ l j q m. each_class (λ l. row_at table' l j ≡ reserved S F C' l j)
-              (row.own_val j (omega arith) ∙ measured.fans j m ∙ fans_as (row_of free-row) (free S F C' i) rows' A (C' i) alike_here j m)
+              (row.own j (omega arith) ∙ measured.fans j m ∙ fans_as (row_of free-row) (free S F C' i) rows' A (C' i) alike_here j m)
               (λ l h. row_below l h j m) l q;
           valid = each_class (λ l. Valid S (free S F C' l) (C' l) (shares_in t' shares' l))
               (valid_as (row_of free-row) (free S F C' i) rows' A (C' i) alike_here (cell x) (shares_in t' shares' i) shares_here chosen.valid) valid_below;

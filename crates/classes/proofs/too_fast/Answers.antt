@@ -10,10 +10,6 @@ use Rattle.order.proofs.Fields.{doses_is, few_doses}
 use Rattle.classes.proofs.OverTop.{no_first, weight_fit, time_fit, slow_if, too_fast_above, too_fast_not}
 use Rattle.classes.proofs.too_fast.Goals as goal
 
--- past the first test there is a first class; `t2` is the tally
-some : (c : goal.After-p-1) → 0 < c.before.before.before.args.t2.class
-some c = omega (arith, c.before.before.if1.false)
-
 pub returns-then-t-eq0 : goal.returns-then-t-eq0
 returns-then-t-eq0 c =
     let asked = c.requires in
@@ -22,20 +18,23 @@ returns-then-t-eq0 c =
 pub overflow_cast-w : goal.overflow_cast-w
 overflow_cast-w c =
     let asked = c.requires in
-    omega (arith, weight_fit asked.0 asked.1 (some c))
+    let some : 0 < c.args.t.class = omega arith in
+    omega (arith, weight_fit asked.0 asked.1 some)
 
 pub overflow_cast-p : goal.overflow_cast-p
 overflow_cast-p c =
     let asked = c.requires in
-    omega (arith, time_fit asked.0 asked.1 (some c))
+    let some : 0 < c.args.t.class = omega arith in
+    omega (arith, time_fit asked.0 asked.1 some)
 
 -- the first class is not above the top rate
 pub returns-then-excess-eq0 : goal.returns-then-excess-eq0
 unfolding as_order
 returns-then-excess-eq0 c =
     let asked = c.requires in
+    let some : 0 < c.args.t.class = omega arith in
     too_fast_not asked.0 asked.1 _ c.not_above-then-excess-eq0.ensures
-    (slow_if asked.0 asked.1 (some c) (omega (arith, c.if-excess-eq0.true, c.excess.ensures)))
+    (slow_if asked.0 asked.1 some (omega (arith, c.if-excess-eq0.true, c.excess.ensures)))
 
 pub first_set-requires : goal.first_set-requires
 first_set-requires c =
@@ -46,5 +45,6 @@ pub returns : goal.returns
 unfolding as_order
 returns c =
     let number = c.first_set.ensures ∙ ap (λ (m : ℕ). set_number m (sets_of c.args.t.numbers 0)) (doses_is c.args.o) in
-    too_fast_above c.requires.0 c.requires.1 (some c) c.first_set.result number
+    let some : 0 < c.args.t.class = omega arith in
+    too_fast_above c.requires.0 c.requires.1 some c.first_set.result number
     (omega (arith, c.if-excess-eq0.false, c.excess.ensures))

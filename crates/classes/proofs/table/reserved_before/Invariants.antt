@@ -8,7 +8,7 @@ use Rattle.classes.specs.Phase.{row_at}
 use Rattle.classes.proofs.table.reserved_before.Given as goal
 
 abbrev pub invariant-loop-i : goal.invariant-loop-i
-invariant-loop-i l = (l.i ≤ l.classes) × (l.sum ≡ sum l.i (λ l. row_at l.table l l.j)) × (l.sum ≤ l.i * 255)
+invariant-loop-i l = (l.i ≤ l.classes) × (l.sum ≡ sum l.i (λ i. row_at l.table i l.j)) × (l.sum ≤ l.i * 255)
 
 abbrev pub decreases-loop-i : goal.decreases-loop-i
 decreases-loop-i l = l.classes - l.i
