@@ -2,12 +2,8 @@
 use mathlib.Core.Path.{refl}
 use Rattle.model.specs.Lists.{gather, total}
 use Rattle.model.specs.Season.{greatest_from, season_of}
-use Rattle.season.proofs.figures.no_orders.Statement.{statement}
-use Rattle.season.proofs.figures.no_orders.Tie as tie
+use Rattle.season.proofs.figures.no_orders.Goals as goal
 
-returns : tie.Need-returns
+pub returns : goal.returns
 unfolding season_of gather total greatest_from
 returns c = refl
-
-pub no_orders_spec : {M : Type 1} → statement M
-no_orders_spec = tie.close (tie.spec returns)
