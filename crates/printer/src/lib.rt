@@ -1,5 +1,5 @@
-// "Reads up to 1,601 bytes of order from standard input", plans it and prints the plan or the refusal (document 01, "The plan printer").
-// A Rattle `main` has no exit status, so `printer_main` is exported and linked as the program's main (tests/link).
+// Reads up to 1,601 bytes of order from an input, plans it and prints the plan or the refusal. The program `printer_program` gives it the
+// standard streams, and ends with the status that it answers.
 #![tactic(auto)]
 
 ghost use Rattle.std.specs.Prelude.{◌≡◌, ◌+◌, ◌*◌, ◌≤◌, length};
@@ -8,11 +8,11 @@ ghost use Rattle.model.specs.Records.{record_size};
 ghost use Rattle.programs.specs.Exits.{Exits};
 ghost use Rattle.lines.specs.Text.{Put};
 ghost use Rattle.plan.specs.Answered.{as_planned};
-ghost use Rattle.printer.specs.Prints.{answer_text, Prints};
+ghost use Rattle.printer.specs.Prints.{answer_text, Prints, AnswersOrder};
 
-use libc::STDOUT_FILENO;
 use plan::Planned;
-use programs::read_input;
+use programs::{read_input, write_text};
+use std::io::{Read, Write};
 use steps::limits::PLAN_ROOM;
 
 // Room for every plan: 24 classes and 1,457 slots.
@@ -48,7 +48,7 @@ fn put_answer(p: Planned, plan: &[u8], text: &mut [u8]) -> usize
 }
 
 // What was put into the text buffer: whether the order was planned, and the text's length.
-#[derive(Drop)]
+#[derive(Clone, Copy)]
 struct Printed {
     planned: bool,
     end: usize,
@@ -60,30 +60,28 @@ fn print(order: &[u8], plan: &mut [u8], text: &mut [u8]) -> Printed
     ensures { Prints order.now plan.old plan.new text.old text.new result.planned result.end }
 {
     let p = plan::plan(order, plan);
+    let planned = p.number == 0;
     let end = put_answer(p, plan, text);
-    Printed {
-        planned: p.number == 0,
-        end,
-    }
+    Printed { planned, end }
 }
 
-// The program's exit status: 0 where it planned, 1 where it printed a refusal, 2 where standard input can't be read or the text can't be
+// The program's exit status: 0 where it planned, 1 where it printed a refusal, 2 where the input can't be read or the text can't be
 // written whole.
-#[unsafe(no_mangle)]
-pub extern "C" fn printer_main() -> i32
-    ensures { Exits result }
+pub fn printer_main<R: Read, W: Write>(input: &mut R, output: &mut W) -> i32
+    ensures exits { Exits result }
+    ensures answered { AnswersOrder (R.remaining input.old) (W.contents output.old) (W.contents output.new) result }
 {
     let mut order = [0u8; 1601];
-    let input = read_input(&mut order);
-    if !input.readable {
+    let read = read_input(input, &mut order);
+    if !read.readable {
         return 2;
     }
-    let n = input.bytes;
+    let n = read.bytes;
     let mut plan = plan_buffer();
     let mut text = text_buffer();
     let printed = print(&order[..n], &mut plan, &mut text);
     let end = printed.end;
-    if !io::write_all(STDOUT_FILENO, &text[..end]) {
+    if !write_text(output, &text[..end]) {
         return 2;
     }
     if printed.planned { 0 } else { 1 }

@@ -1,48 +1,67 @@
-// What the programs share: standard input, read to its end or until a buffer is full.
+// What the programs share: an input, read to its end or until a buffer is full, a text, written whole, and the exit status.
 #![tactic(auto)]
 
-ghost use Rattle.std.specs.Prelude.{◌+◌, ◌≤◌, length};
-ghost use Rattle.io.specs.Counts.{IsPrefixLen};
+ghost use Rattle.std.specs.Prelude.{◌≡◌, ◌≤◌, length, take, IfSome, true, pos};
+ghost use Rattle.std.specs.Io.KnownBytes.{Appends, Consumes};
+ghost use Rattle.std.specs.Process.{exit_status};
+ghost use Rattle.programs.specs.Exits.{Exits};
 
-use libc::STDIN_FILENO;
+use std::io::{Read, Write};
+use std::process::ExitCode;
 
-// What reading standard input gave: whether it can be read, and how many bytes came.
-#[derive(Drop)]
+// What reading an input gave: whether it can be read, and how many bytes came.
+#[derive(Clone, Copy)]
 pub struct Input {
     pub readable: bool,
     pub bytes: usize,
 }
 
-// One read, of bytes from a place of the buffer on.
-fn read_on(buffer: &mut [u8], at: usize) -> Input
-    requires { at ≤ length buffer.old }
-    ensures { at + result.bytes ≤ length buffer.new }
-{
-    let got = libc::read(STDIN_FILENO, &mut buffer[at..]);
-    let bytes = io::count(got, &buffer[at..]);
-    Input {
-        readable: got >= 0,
-        bytes,
-    }
-}
-
 // Reads until the buffer is full, the input ends or can't be read.
-pub fn read_input(buffer: &mut [u8]) -> Input
-    ensures { IsPrefixLen result.bytes buffer.new }
+pub fn read_input<R: Read>(input: &mut R, buffer: &mut [u8]) -> Input
+    ensures within { result.bytes ≤ length buffer.new }
+    ensures prefix { result.bytes ≡ length (take result.bytes buffer.new) }
+    ensures same_length { length buffer.new ≡ length buffer.old }
+    ensures none_lost { Consumes (R.remaining input.old) (R.remaining input.new) (take result.bytes buffer.new) }
+    ensures whole { result.readable ≡ true → IfSome (R.remaining input.old) (λ xs. take result.bytes buffer.new ≡ take (length buffer.new) xs) }
 {
     let mut at = 0;
     while at < buffer.len() {
-        let i = read_on(buffer, at);
-        if i.bytes == 0 {
-            return Input {
-                readable: i.readable,
-                bytes: at,
-            };
+        match input.read(&mut buffer[at..]) {
+            Ok(0) => {
+                return Input {
+                    readable: true,
+                    bytes: at,
+                };
+            }
+            Ok(n) => at += n,
+            Err(_) => {
+                return Input {
+                    readable: false,
+                    bytes: at,
+                };
+            }
         }
-        at += i.bytes;
     }
     Input {
         readable: true,
         bytes: at,
     }
+}
+
+// Writes the whole text. False where it can't be written whole.
+pub fn write_text<W: Write>(output: &mut W, text: &[u8]) -> bool
+    ensures { result ≡ true → Appends (W.contents output.old) (W.contents output.new) text.now }
+{
+    match output.write_all(text) {
+        Ok(()) => output.flush().is_ok(),
+        Err(_) => false,
+    }
+}
+
+// The status as a program's `main` gives it.
+pub fn exit_code(status: i32) -> ExitCode
+    requires { Exits status }
+    ensures { status ≡ pos (exit_status result) }
+{
+    ExitCode::from(status as u8)
 }

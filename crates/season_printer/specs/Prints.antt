@@ -1,5 +1,7 @@
--- What the program's text says of a stream (document 02, C-15).
-use Rattle.std.specs.Prelude.{◌≡◌, Bool, List, ℕ, ◌≤◌, eqb, length}
+-- What the program's text says of a stream.
+use Rattle.std.specs.Prelude.{◌≡◌, ◌≢◌, Bool, IfSome, List, ℕ, ℤ, ◌≤◌, eqb, length, pos, take}
+use Rattle.std.specs.Io.KnownBytes.{Appends}
+use Rattle.core.specs.declared.option.Option.{Option}
 use Rattle.model.specs.Records.{pick}
 use Rattle.model.specs.Season.{AddedUp, AddsUp}
 use Rattle.lines.specs.Text.{Put, refused_text, season_text}
@@ -22,3 +24,14 @@ pub record PrintsSeason (stream text text' : List ℕ) (added : Bool) (end : ℕ
   pub put : Put (added_text answer) text 0 text' end
   pub inside : end ≤ length text'
   pub told : added ≡ eqb answer.answer.number 0
+
+-- the text of what a stream comes to stands behind what the output held, and the status says whether the stream was added up
+pub record Answers (stream : List ℕ) (held held' : Option (List ℕ)) (status : ℤ) : Type 0 where
+  pub answer : AddedUp
+  pub adds : AddsUp stream answer
+  pub written : Appends held held' (added_text answer)
+  pub told : status ≡ pos (pick (eqb answer.answer.number 0) 0 1)
+
+-- where the input's bytes are known: any status but 2 says that the first 65,537 of them, or all, are the stream that is answered
+abbrev pub AnswersStream : Option (List ℕ) → Option (List ℕ) → Option (List ℕ) → ℤ → Type 0
+AnswersStream given held held' status = status ≢ pos 2 → IfSome given (λ bytes. Answers (take 65537 bytes) held held' status)

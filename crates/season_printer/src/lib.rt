@@ -1,16 +1,16 @@
-// Reads up to 65,537 bytes of a stream of orders from standard input, adds it up and prints the season's figures or the refusal (document 02, C-15).
-// A Rattle `main` has no exit status, so `season_main` is exported and linked as the program's main (tests/link).
+// Reads up to 65,537 bytes of a stream of orders from an input, adds it up and prints the season's figures or the refusal. The program
+// `season_program` gives it the standard streams, and ends with the status that it answers.
 #![tactic(auto)]
 
 ghost use Rattle.std.specs.Prelude.{◌≡◌, ◌≤◌, length};
 ghost use Rattle.lines.specs.Text.{Put};
 ghost use Rattle.programs.specs.Exits.{Exits};
 ghost use Rattle.season.specs.Held.{as_added_up};
-ghost use Rattle.season_printer.specs.Prints.{text_room, added_text, PrintsSeason};
+ghost use Rattle.season_printer.specs.Prints.{text_room, added_text, PrintsSeason, AnswersStream};
 
-use libc::STDOUT_FILENO;
-use programs::read_input;
+use programs::{read_input, write_text};
 use season::AddedUp;
+use std::io::{Read, Write};
 
 // One byte more than the longest stream: a longer one is seen to be.
 const STREAM_READ: usize = 65537;
@@ -39,7 +39,7 @@ fn put_added(a: AddedUp, text: &mut [u8]) -> usize
 }
 
 // What was put into the text buffer: whether the stream was added up, and the text's length.
-#[derive(Drop)]
+#[derive(Clone, Copy)]
 struct Printed {
     added: bool,
     end: usize,
@@ -51,29 +51,27 @@ fn print(stream: &[u8], text: &mut [u8]) -> Printed
     ensures { PrintsSeason stream.now text.old text.new result.added result.end }
 {
     let a = season::add_up(stream);
+    let added = a.number == 0;
     let end = put_added(a, text);
-    Printed {
-        added: a.number == 0,
-        end,
-    }
+    Printed { added, end }
 }
 
-// The program's exit status: 0 where it added up, 1 where it printed a refusal, 2 where standard input can't be read or the text can't be
+// The program's exit status: 0 where it added up, 1 where it printed a refusal, 2 where the input can't be read or the text can't be
 // written whole.
-#[unsafe(no_mangle)]
-pub extern "C" fn season_main() -> i32
-    ensures { Exits result }
+pub fn season_main<R: Read, W: Write>(input: &mut R, output: &mut W) -> i32
+    ensures exits { Exits result }
+    ensures answered { AnswersStream (R.remaining input.old) (W.contents output.old) (W.contents output.new) result }
 {
     let mut stream = stream_buffer();
-    let input = read_input(&mut stream);
-    if !input.readable {
+    let read = read_input(input, &mut stream);
+    if !read.readable {
         return 2;
     }
-    let n = input.bytes;
+    let n = read.bytes;
     let mut text = [0u8; TEXT_ROOM];
     let printed = print(&stream[..n], &mut text);
     let end = printed.end;
-    if !io::write_all(STDOUT_FILENO, &text[..end]) {
+    if !write_text(output, &text[..end]) {
         return 2;
     }
     if printed.added { 0 } else { 1 }
