@@ -7,25 +7,24 @@ ghost use Rattle.order.specs.Held.{as_order};
 
 use classes::Tally;
 use interval::Instants;
-use libc::{STDIN_FILENO, STDOUT_FILENO};
 use order::Order;
-use std::num::wrapping_add_u64;
+use std::io;
+use std::io::Read;
 use steps::limits::{CELLS, MOST_BAY, MOST_DOSES, MOST_INTERVALS, ORDER_ROOM};
 use steps::{index, of_byte, on, wide};
 
-fn word(text: &[u8]) {
-    io::write_all(STDOUT_FILENO, text);
+fn word(rt: &impl Print, text: &str) -> io::Result<()> {
+    rt.print(text)
 }
 
-fn number(n: u64) {
-    word(b" ");
-    io::print_decimal(STDOUT_FILENO, n);
+fn number(rt: &impl Print, n: u64) -> io::Result<()> {
+    print!(rt; " {n}")
 }
 
-fn show_refused(n: u32, place: usize) {
-    word(b"refused");
-    number(n as u64);
-    number(place as u64);
+fn show_refused(rt: &impl Print, n: u32, place: usize) -> io::Result<()> {
+    word(rt, "refused")?;
+    number(rt, n as u64)?;
+    number(rt, place as u64)
 }
 
 // The place of dose k's class among the classes, one below its number; 24 where there is none.
@@ -95,28 +94,29 @@ fn class_set(t: Tally, i: usize, doses: usize) -> u64 {
     let mut bit: u64 = 1;
     let mut k = 0;
     while k < doses {
-        set = wrapping_add_u64(set, on(class_of(t, k) == i, bit));
-        bit = wrapping_add_u64(bit, bit);
+        set = set.wrapping_add(on(class_of(t, k) == i, bit));
+        bit = bit.wrapping_add(bit);
         k += 1;
     }
     set
 }
 
-fn show_class(t: Tally, i: usize, doses: usize) {
-    word(b"class");
-    number(class_set(t, i, doses));
-    number(class_weight(t, i));
-    number(class_time(t, i));
-    word(b"\n");
+fn show_class(rt: &impl Print, t: Tally, i: usize, doses: usize) -> io::Result<()> {
+    word(rt, "class")?;
+    number(rt, class_set(t, i, doses))?;
+    number(rt, class_weight(t, i))?;
+    number(rt, class_time(t, i))?;
+    word(rt, "\n")
 }
 
-fn show_classes(t: Tally, doses: usize) {
+fn show_classes(rt: &impl Print, t: Tally, doses: usize) -> io::Result<()> {
     let n = t.class;
     let mut i = 0;
     while i < n {
-        show_class(t, i, doses);
+        show_class(rt, t, i, doses)?;
         i += 1;
     }
+    Ok(())
 }
 
 // "Its share in an interval of length L is at most L × W units, only where it is active".
@@ -158,7 +158,7 @@ fn dose_served(o: Order, s: Instants, t: Tally, shares: &[u64; CELLS], k: usize)
         if !stands(o, s, weight, share, k, j) {
             return false;
         }
-        sum = wrapping_add_u64(sum, share);
+        sum = sum.wrapping_add(share);
         j += 1;
     }
     sum == units_of(o, t, k, i)
@@ -181,7 +181,7 @@ fn class_share(t: Tally, shares: &[u64; CELLS], i: usize, j: usize) -> u64 {
     let mut sum: u64 = 0;
     let mut k = 0;
     while k < MOST_DOSES {
-        sum = wrapping_add_u64(sum, on(class_of(t, k) == i, share_at(shares, k, j)));
+        sum = sum.wrapping_add(on(class_of(t, k) == i, share_at(shares, k, j)));
         k += 1;
     }
     sum
@@ -243,16 +243,16 @@ fn valid(
     classes_full(s, t, shares, table)
 }
 
-fn show_valid(test: bool) {
+fn show_valid(rt: &impl Print, test: bool) -> io::Result<()> {
     if test {
-        word(b"valid\n");
+        word(rt, "valid\n")
     } else {
-        word(b"NOT valid\n");
+        word(rt, "NOT valid\n")
     }
 }
 
 // An order that was read.
-fn show_order(o: Order)
+fn show_order(rt: &impl Print, o: Order) -> io::Result<()>
     requires { Fit (as_order o) }
 {
     let mut shares = [0u64; CELLS];
@@ -260,50 +260,51 @@ fn show_order(o: Order)
     let t = classes::classes_of(o, &mut shares, &mut table);
     let top = classes::too_fast(o, t);
     if top.above {
-        show_refused(9, 0);
-        number(top.set);
-        number(top.weight);
-        number(top.time);
-        word(b"\n");
-        return;
+        show_refused(rt, 9, 0)?;
+        number(rt, top.set)?;
+        number(rt, top.weight)?;
+        number(rt, top.time)?;
+        word(rt, "\n")?;
+        return Ok(());
     }
-    show_classes(t, o.count);
-    show_valid(valid(o, t, &shares, &table));
+    show_classes(rt, t, o.count)?;
+    show_valid(rt, valid(o, t, &shares, &table))
 }
 
-fn show(bytes: &[u8]) {
+fn show(rt: &impl Print, bytes: &[u8]) -> io::Result<()> {
     let r = order::read_order(MOST_BAY, bytes);
     if r.number != 0 {
-        show_refused(r.number, r.place);
-        word(b"\n");
-        return;
+        show_refused(rt, r.number, r.place)?;
+        word(rt, "\n")?;
+        return Ok(());
     }
     let o = r.order;
-    show_order(o);
+    show_order(rt, o)
 }
 
 // The next frame's order. False where the input ends or no order is so long.
-fn show_next() -> bool {
+fn show_next(rt: &impl Print, input: &mut impl Read) -> io::Result<bool> {
     let mut frame = [0u8; 1632];
-    let n = io::read_full(STDIN_FILENO, &mut frame);
-    if n < 1632 {
-        return false;
+    if input.read_exact(&mut frame).is_err() {
+        return Ok(false);
     }
     let len = records::number::read32(&frame, 0) as usize;
     if ORDER_ROOM < len {
-        return false;
+        return Ok(false);
     }
-    show(&frame[32..32 + len]);
-    true
+    show(rt, &frame[32..32 + len])?;
+    Ok(true)
 }
 
 // Up to 1,000,000 frames.
-fn main() {
+fn main(rt: HostRuntime) -> io::Result<()> {
+    let mut input = rt.stdin();
     let mut left: u32 = 1000000;
     while 0 < left {
-        if !show_next() {
-            return;
+        if !show_next(&rt, &mut input)? {
+            return Ok(());
         }
         left -= 1;
     }
+    Ok(())
 }

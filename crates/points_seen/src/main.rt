@@ -6,16 +6,15 @@ ghost use Rattle.model.specs.Answers.{Moves};
 ghost use Rattle.draw.specs.Drawing.{as_drawn, as_pen};
 
 use draw::{Drawn, Pen, Point, State};
-use libc::STDOUT_FILENO;
 use records::{Class, Dose, Fans, Slot, put_class};
+use std::io;
 
-fn word(text: &[u8]) {
-    io::write_all(STDOUT_FILENO, text);
+fn word(rt: &impl Print, text: &str) -> io::Result<()> {
+    rt.print(text)
 }
 
-fn number(n: u32) {
-    io::print_decimal(STDOUT_FILENO, n as u64);
-    io::write_all(STDOUT_FILENO, b" ");
+fn number(rt: &impl Print, n: u32) -> io::Result<()> {
+    print!(rt; "{n} ")
 }
 
 fn put_fans(b: &mut [u8], at: usize, fans: u32)
@@ -61,32 +60,32 @@ fn put_slot(b: &mut [u8], at: usize, fan: u32, dose: u32, start: u32, end: u32, 
     records::put_slot(b, at, s);
 }
 
-fn show_state(s: State) {
+fn show_state(rt: &impl Print, s: State) -> io::Result<()> {
     match s {
-        State::Finished => word(b"finished\n"),
-        State::Shut => word(b"shut\n"),
-        State::Idle => word(b"idle\n"),
+        State::Finished => word(rt, "finished\n"),
+        State::Shut => word(rt, "shut\n"),
+        State::Idle => word(rt, "idle\n"),
         State::Dosing(fan) => {
-            word(b"dosing ");
-            number(fan);
-            word(b"\n");
+            word(rt, "dosing ")?;
+            number(rt, fan)?;
+            word(rt, "\n")
         }
     }
 }
 
 // Amount, state.
-fn show_point(p: Point) {
-    number(p.amount);
+fn show_point(rt: &impl Print, p: Point) -> io::Result<()> {
+    number(rt, p.amount)?;
     let s = p.state;
-    show_state(s);
+    show_state(rt, s)
 }
 
 // Number, amount, state.
-fn show(order: &[u8], plan: &[u8], dose: usize, tick: u32) {
+fn show(rt: &impl Print, order: &[u8], plan: &[u8], dose: usize, tick: u32) -> io::Result<()> {
     let d = draw::point_at(order, plan, dose, tick);
-    number(d.number);
+    number(rt, d.number)?;
     let p = d.point;
-    show_point(p);
+    show_point(rt, p)
 }
 
 // A pen that was lent, and what it drew.
@@ -106,15 +105,15 @@ fn lend(order: &[u8], plan: &[u8], pen: Pen) -> Returned
 }
 
 // A pen's step: number, the pen's tick behind it, amount, state. Gives back the pen.
-fn step(order: &[u8], plan: &[u8], pen: Pen) -> Pen {
+fn step(rt: &impl Print, order: &[u8], plan: &[u8], pen: Pen) -> io::Result<Pen> {
     let r = lend(order, plan, pen);
     let d = r.drawn;
-    number(d.number);
+    number(rt, d.number)?;
     let after = r.pen;
-    number(after.tick);
+    number(rt, after.tick)?;
     let p = d.point;
-    show_point(p);
-    after
+    show_point(rt, p)?;
+    Ok(after)
 }
 
 // P1: one fan; [0,10) 20, [0,4) 16.
@@ -165,55 +164,58 @@ fn second_plan(p: &mut [u8; 160]) {
     put_slot(p, 128, 2, 2, 1, 3, c);
 }
 
-fn first_points(b: &[u8; 96], p: &[u8; 128]) {
-    show(b, p, 0, 4);
-    show(b, p, 0, 5);
-    show(b, p, 0, 6);
-    show(b, p, 0, 7);
-    show(b, p, 0, 10);
+fn first_points(rt: &impl Print, b: &[u8; 96], p: &[u8; 128]) -> io::Result<()> {
+    show(rt, b, p, 0, 4)?;
+    show(rt, b, p, 0, 5)?;
+    show(rt, b, p, 0, 6)?;
+    show(rt, b, p, 0, 7)?;
+    show(rt, b, p, 0, 10)
 }
 
 // At the ends: the last tick and the one behind it, no such dose, and bytes that are no plan.
-fn edges(b: &[u8; 96], p: &[u8; 128]) {
-    show(b, p, 1, 604800);
-    show(b, p, 1, 604801);
-    show(b, p, 2, 604801);
-    show(b, b, 0, 0);
+fn edges(rt: &impl Print, b: &[u8; 96], p: &[u8; 128]) -> io::Result<()> {
+    show(rt, b, p, 1, 604800)?;
+    show(rt, b, p, 1, 604801)?;
+    show(rt, b, p, 2, 604801)?;
+    show(rt, b, b, 0, 0)
 }
 
-fn second_points(b: &[u8; 128], p: &[u8; 160]) {
-    show(b, p, 1, 0);
-    show(b, p, 1, 1);
-    show(b, p, 1, 2);
-    show(b, p, 1, 3);
+fn second_points(rt: &impl Print, b: &[u8; 128], p: &[u8; 160]) -> io::Result<()> {
+    show(rt, b, p, 1, 0)?;
+    show(rt, b, p, 1, 1)?;
+    show(rt, b, p, 1, 2)?;
+    show(rt, b, p, 1, 3)
 }
 
 // Dose 0 of P1 from tick 2 on: Idle until its slot starts at 4.
-fn steps(b: &[u8; 96], p: &[u8; 128]) {
+fn steps(rt: &impl Print, b: &[u8; 96], p: &[u8; 128]) -> io::Result<()> {
     let at2 = Pen { dose: 0, tick: 2 };
-    let at3 = step(b, p, at2);
-    let at4 = step(b, p, at3);
-    let at5 = step(b, p, at4);
-    let at6 = step(b, p, at5);
-    step(b, p, at6);
+    let at3 = step(rt, b, p, at2)?;
+    let at4 = step(rt, b, p, at3)?;
+    let at5 = step(rt, b, p, at4)?;
+    let at6 = step(rt, b, p, at5)?;
+    step(rt, b, p, at6)?;
+    Ok(())
 }
 
 // The last step, and the one that is refused; then a dose that is not there, bytes that are no plan and bytes that are no order: the pen stays.
-fn last_steps(b: &[u8; 96], p: &[u8; 128]) {
+fn last_steps(rt: &impl Print, b: &[u8; 96], p: &[u8; 128]) -> io::Result<()> {
     let pen = Pen {
         dose: 1,
         tick: 604799,
     };
-    let last = step(b, p, pen);
-    step(b, p, last);
+    let last = step(rt, b, p, pen)?;
+    step(rt, b, p, last)?;
     let none = Pen { dose: 2, tick: 5 };
-    step(b, p, none);
+    step(rt, b, p, none)?;
     let early = Pen { dose: 0, tick: 5 };
-    step(b, b, early);
-    step(p, p, early);
+    step(rt, b, b, early)?;
+    step(rt, p, p, early)?;
+    Ok(())
 }
 
-fn main() {
+fn main(rt: HostRuntime) -> io::Result<()> {
+    let rt = &rt;
     let mut b = [0u8; 96];
     first_order(&mut b);
     let mut p = [0u8; 128];
@@ -222,13 +224,13 @@ fn main() {
     second_order(&mut c);
     let mut q = [0u8; 160];
     second_plan(&mut q);
-    word(b"P1\n");
-    first_points(&b, &p);
-    word(b"P2\n");
-    second_points(&c, &q);
-    word(b"edges\n");
-    edges(&b, &p);
-    word(b"pens\n");
-    steps(&b, &p);
-    last_steps(&b, &p);
+    word(rt, "P1\n")?;
+    first_points(rt, &b, &p)?;
+    word(rt, "P2\n")?;
+    second_points(rt, &c, &q)?;
+    word(rt, "edges\n")?;
+    edges(rt, &b, &p)?;
+    word(rt, "pens\n")?;
+    steps(rt, &b, &p)?;
+    last_steps(rt, &b, &p)
 }
