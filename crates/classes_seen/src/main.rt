@@ -92,11 +92,9 @@ fn bounded_product(a: u64, b: u64) -> u64 {
 fn class_set(t: Tally, i: usize, doses: usize) -> u64 {
     let mut set: u64 = 0;
     let mut bit: u64 = 1;
-    let mut k = 0;
-    while k < doses {
+    for k in 0..doses {
         set = set.wrapping_add(on(class_of(t, k) == i, bit));
         bit = bit.wrapping_add(bit);
-        k += 1;
     }
     set
 }
@@ -110,11 +108,8 @@ fn show_class(rt: &impl Print, t: Tally, i: usize, doses: usize) -> io::Result<(
 }
 
 fn show_classes(rt: &impl Print, t: Tally, doses: usize) -> io::Result<()> {
-    let n = t.class;
-    let mut i = 0;
-    while i < n {
+    for i in 0..t.class {
         show_class(rt, t, i, doses)?;
-        i += 1;
     }
     Ok(())
 }
@@ -152,26 +147,21 @@ fn dose_served(o: Order, s: Instants, t: Tally, shares: &[u64; CELLS], k: usize)
     }
     let weight = class_weight(t, i);
     let mut sum: u64 = 0;
-    let mut j = 0;
-    while j < MOST_INTERVALS {
+    for j in 0..MOST_INTERVALS {
         let share = share_at(shares, k, j);
         if !stands(o, s, weight, share, k, j) {
             return false;
         }
         sum = sum.wrapping_add(share);
-        j += 1;
     }
     sum == units_of(o, t, k, i)
 }
 
 fn doses_served(o: Order, s: Instants, t: Tally, shares: &[u64; CELLS]) -> bool {
-    let n = o.count;
-    let mut k = 0;
-    while k < n {
+    for k in 0..o.count {
         if !dose_served(o, s, t, shares, k) {
             return false;
         }
-        k += 1;
     }
     true
 }
@@ -179,10 +169,8 @@ fn doses_served(o: Order, s: Instants, t: Tally, shares: &[u64; CELLS]) -> bool 
 // The shares of class i in interval j.
 fn class_share(t: Tally, shares: &[u64; CELLS], i: usize, j: usize) -> u64 {
     let mut sum: u64 = 0;
-    let mut k = 0;
-    while k < MOST_DOSES {
+    for k in 0..MOST_DOSES {
         sum = sum.wrapping_add(on(class_of(t, k) == i, share_at(shares, k, j)));
-        k += 1;
     }
     sum
 }
@@ -210,19 +198,11 @@ fn classes_full(
     shares: &[u64; CELLS],
     table: &[[u8; MOST_INTERVALS]; MOST_DOSES],
 ) -> bool {
-    let mut at = 0;
-    while at < CELLS {
-        if !full(
-            s,
-            t,
-            shares,
-            table,
-            at / MOST_INTERVALS,
-            at % MOST_INTERVALS,
-        ) {
+    for at in 0..CELLS {
+        let (i, j) = (at / MOST_INTERVALS, at % MOST_INTERVALS);
+        if !full(s, t, shares, table, i, j) {
             return false;
         }
-        at += 1;
     }
     true
 }
@@ -299,12 +279,10 @@ fn show_next(rt: &impl Print, input: &mut impl Read) -> io::Result<bool> {
 // Up to 1,000,000 frames.
 fn main(rt: HostRuntime) -> io::Result<()> {
     let mut input = rt.stdin();
-    let mut left: u32 = 1000000;
-    while 0 < left {
+    for _ in 0..1000000 {
         if !show_next(&rt, &mut input)? {
-            return Ok(());
+            break;
         }
-        left -= 1;
     }
     Ok(())
 }

@@ -36,11 +36,8 @@ fn show_dose(rt: &impl Print, o: Order, k: usize) -> io::Result<()>
 fn show_doses(rt: &impl Print, o: Order) -> io::Result<()>
     requires { o.count ≤ most_doses }
 {
-    let n = o.count;
-    let mut k = 0;
-    while k < n {
+    for k in 0..o.count {
         show_dose(rt, o, k)?;
-        k += 1;
     }
     Ok(())
 }
@@ -49,13 +46,11 @@ fn show_spans(rt: &impl Print, o: Order) -> io::Result<()>
     requires { o.count ≤ most_doses }
 {
     let s = interval::instants_of(o);
-    let mut j = 0;
-    while j < 47 {
+    for j in 0..47 {
         let l = interval::span(s, j);
         if 0 < l {
             number(rt, l)?;
         }
-        j += 1;
     }
     Ok(())
 }
@@ -152,12 +147,8 @@ fn two_doses(rt: &impl Print, bay: u32, r1: u32, d1: u32, r2: u32, d2: u32) -> i
 fn put_doses(b: &mut [u8], n: usize)
     requires { (n < 64) × (32 * n + 32 ≤ length b.old) }
 {
-    let mut k = 0;
-    let mut bay: u32 = 1;
-    while k < n {
-        put_dose(b, 32 * k + 32, bay, 0, 5, 10);
-        k += 1;
-        bay += 1;
+    for k in 0..n {
+        put_dose(b, 32 * k + 32, k as u32 + 1, 0, 5, 10);
     }
 }
 
@@ -191,11 +182,9 @@ fn spoilt_dose(rt: &impl Print, at: usize) -> io::Result<()>
 }
 
 fn spoilt(rt: &impl Print) -> io::Result<()> {
-    let mut i = 0;
-    while i < 32 {
+    for i in 0..32 {
         spoilt_fans(rt, i)?;
         spoilt_dose(rt, i)?;
-        i += 1;
     }
     Ok(())
 }
