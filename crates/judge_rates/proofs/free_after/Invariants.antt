@@ -1,0 +1,11 @@
+use Prim.Native.Nat.{◌-◌}
+use lib.ListN.{get_or}
+use Rattle.model.specs.Limits.{most_intervals}
+use Rattle.steps.proofs.Loops.{DoneTo}
+use Rattle.judge_rates.proofs.free_after.Given as goal
+
+abbrev pub invariant-loop-j : goal.invariant-loop-j
+invariant-loop-j l = DoneTo 0 most_intervals (λ m. get_or l.free m 0 - get_or l.row m 0) l.j l.left
+
+abbrev pub decreases-loop-j : goal.decreases-loop-j
+decreases-loop-j l = most_intervals - l.j
