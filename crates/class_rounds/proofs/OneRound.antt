@@ -51,7 +51,7 @@ module _ (n J : ℕ) (release deadline instants : List ℕ) (active : List Bool)
       intervals = arrays.few_intervals;
       room = λ k j l m. room_at k j (omega (arith, arrays.few_doses)) (omega (arith, arrays.few_intervals))
           ∙ ap (λ (y : ℕ). on (A k && active_of active k j) (get_or lens j 0 * y)) known.weight;
-      no_dose_lem = λ k j g l q. no_room k j l q (arrays.no_dose_lem k j g l q);
+      no_dose = λ k j g l q. no_room k j l q (arrays.no_dose k j g l q);
       no_interval = λ k j l g q. no_room k j l q (arrays.no_interval k j l g q);
       hold = λ j l. hh j (omega (arith, arrays.few_intervals)) ∙ ap (λ (y : ℕ). y * (get_or lens j 0 * w)) (known.fans j l)
           ∙ ap (λ (y : ℕ). open_fans S (row_of free) A j * (get_or lens j 0 * y)) known.weight;

@@ -37,7 +37,7 @@ module _ (S : Setting) (row : Row) (A : Doses) (rooms holds needs : List ℕ) wh
     pub doses : n ≤ most_doses
     pub intervals : J ≤ most_intervals
     pub room : (k j : ℕ) → k < n → j < J → cell rooms k j ≡ model.room S row A k j
-    pub no_dose_lem : (k j : ℕ) → n ≤ k → k < most_doses → j < most_intervals → cell rooms k j ≡ 0
+    pub no_dose : (k j : ℕ) → n ≤ k → k < most_doses → j < most_intervals → cell rooms k j ≡ 0
     pub no_interval : (k j : ℕ) → k < most_doses → J ≤ j → j < most_intervals → cell rooms k j ≡ 0
     pub hold : (j : ℕ) → j < J → get_or holds j 0 ≡ model.holds S row A j
     pub need : (k : ℕ) → k < n → get_or needs k 0 ≡ on (A k) (model.need S row A k)
@@ -70,7 +70,7 @@ module _ (S : Setting) (row : Row) (A : Doses) (rooms holds needs : List ℕ) wh
     totals_given : (j : ℕ) → j < J → model.given S row A share j ≡ given x j
     totals_given j l =
         sym (sum_past n most_doses asked.doses (λ k. share k j)
-        (λ k h q. omega (arith, p.within.bounded.roomy k j q (interval_in l), asked.no_dose_lem k j h q (interval_in l))))
+        (λ k h q. omega (arith, p.within.bounded.roomy k j q (interval_in l), asked.no_dose k j h q (interval_in l))))
         ∙ given_sum x j
 
     pub within : model.Within S row A share

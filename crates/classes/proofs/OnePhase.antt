@@ -257,7 +257,7 @@ module _ (n J : ℕ) (active : List Bool) (lens grams : List ℕ) (F : Row) (few
           no_row = λ l j g. row.others l j (λ e. omega (arith, after.class)) ∙ so.past.no_row l j (omega (arith, after.class));
           no_column = λ l j q g h. each_class (λ l. row_at table' l j ≡ 0) (row.own j h ∙ measured.no_fans j g h)
               (λ l m. row.others l j (λ e. omega arith) ∙ so.past.no_column l j m g h) l q;
-          no_dose_lem = λ k j g l q. cell_at k j l q ∙ ap (λ (b : Bool). choose b (cell x k j) (cell shares k j)) (chosen.past k g l) ∙ so.past.no_dose_lem k j g l q;
+          no_dose = λ k j g l q. cell_at k j l q ∙ ap (λ (b : Bool). choose b (cell x k j) (cell shares k j)) (chosen.past k g l) ∙ so.past.no_dose k j g l q;
           no_interval = λ k j l g q. cell_at k j l q ∙ none_of (A k) (chosen.none k j l q (quiet k j l g q)) (so.past.no_interval k j l g q);
         }
 
@@ -302,7 +302,7 @@ module _ (n J : ℕ) (active : List Bool) (lens grams : List ℕ) (F : Row) (few
       no_time = λ i g. ap (λ (l : List ℕ). get_or l i 0) z.time ∙ all_same most_doses i 0;
       no_row = λ i j g. blank.rows i j;
       no_column = λ i j l g h. blank.rows i j;
-      no_dose_lem = λ k j g l q. blank.cells (k * most_intervals + j);
+      no_dose = λ k j g l q. blank.cells (k * most_intervals + j);
       no_interval = λ k j l g q. blank.cells (k * most_intervals + j);
     };
   }

@@ -71,7 +71,7 @@ pub record Past (n J : ℕ) (t : Tally) (table : List (List ℕ)) (shares : List
   pub no_time : (i : ℕ) → t.class ≤ i → get_or t.time i 0 ≡ 0
   pub no_row : (i j : ℕ) → t.class ≤ i → row_at table i j ≡ 0
   pub no_column : (i j : ℕ) → i < t.class → J ≤ j → j < most_intervals → row_at table i j ≡ 0
-  pub no_dose_lem : (k j : ℕ) → n ≤ k → k < most_doses → j < most_intervals → cell shares k j ≡ 0
+  pub no_dose : (k j : ℕ) → n ≤ k → k < most_doses → j < most_intervals → cell shares k j ≡ 0
   pub no_interval : (k j : ℕ) → k < most_doses → J ≤ j → j < most_intervals → cell shares k j ≡ 0
 
 -- the tally so far, with the table of reservations and the shares of the classes that it has

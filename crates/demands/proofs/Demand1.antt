@@ -99,7 +99,7 @@ judging_numbers (Judges.stands o g h) = inl refl
 pub drawing_numbers : {order plan : List ℕ} {d t : ℕ} {x : Drawn} → Draws order plan d t x
     → (x.answer.number ≡ 0) ⊎ ((2 ≤ x.answer.number) × (x.answer.number ≤ 12))
 drawing_numbers (Draws.refuses a j n) = elim (judging_numbers j) [ inl z ↦ inl z | inr m ↦ inr (m.0, omega (arith, m)) ]
-drawing_numbers (Draws.no_dose_lem o g h l) = inr (omega arith, omega arith)
+drawing_numbers (Draws.no_such_dose o g h l) = inr (omega arith, omega arith)
 drawing_numbers (Draws.too_late o g h l w) = inr (omega arith, omega arith)
 drawing_numbers (Draws.draws o g h l w) = inl refl
 
@@ -114,7 +114,7 @@ LayingNumber number = (number ≡ 0) ⊎ (((2 ≤ number) × (number ≤ 11)) �
 
 pub laying_numbers : {order plan : List ℕ} {d : ℕ} {log : List ℕ} {x : Laid} → Lays order plan d log x → LayingNumber x.answer.number
 laying_numbers (Lays.refuses a j n) = elim (judging_numbers j) [ inl z ↦ inl z | inr m ↦ inr (inl (m.0, omega (arith, m))) ]
-laying_numbers (Lays.no_dose_lem o g h l) = inr (inl (omega arith, omega arith))
+laying_numbers (Lays.no_such_dose o g h l) = inr (inl (omega arith, omega arith))
 laying_numbers {plan = plan} {d = d} {log = log} (Lays.lays o g h l) =
     laid_either (λ x. LayingNumber x.answer.number) (line_of plan d) (read_log (dose_at o d).bay log)
     (λ number place e. inr (inr (log_number (dose_at o d).bay log number place e))) (λ records e. inl refl)
@@ -170,7 +170,7 @@ drawing_fields h = (order_meant (drawn_order h), point h)
   where
     point : {order plan : List ℕ} {d t : ℕ} {x : Drawn} → Draws order plan d t x → x.answer.number ≢ 0 → (x.point.amount ≡ 0) × (x.point.state ≡ shut)
     point (Draws.refuses a j n) z = (refl, refl)
-    point (Draws.no_dose_lem o g h l) z = (refl, refl)
+    point (Draws.no_such_dose o g h l) z = (refl, refl)
     point (Draws.too_late o g h l w) z = (refl, refl)
     point (Draws.draws o g h l w) z = absurd (z refl)
 
@@ -186,7 +186,7 @@ laying_fields h = (order_meant (laid_order h), none h)
   where
     none : {order plan : List ℕ} {d : ℕ} {log : List ℕ} {x : Laid} → Lays order plan d log x → x.answer.number ≢ 0 → x.figures ≡ no_figures
     none (Lays.refuses a j n) = λ z. refl
-    none (Lays.no_dose_lem o g h l) = λ z. refl
+    none (Lays.no_such_dose o g h l) = λ z. refl
     none {plan = plan} {d = d} {log = log} (Lays.lays o g h l) =
         laid_either (λ x. x.answer.number ≢ 0 → x.figures ≡ no_figures) (line_of plan d) (read_log (dose_at o d).bay log) (λ number place e z. refl) (λ records e z. absurd (z refl))
 

@@ -93,17 +93,17 @@ module _ (last : ℕ) (order : List ℕ) (o : Order) (e : read_order last order 
   -- "refused for the top rate exactly if no plan within that rate exists"
   pub refused_exactly : ((a : Answer) × Refuses last order a) ↔ (FreePlan o → ⊥)
   refused_exactly = (
-    λ r. let n = refused_names order o e r.0 r.1 in above_none o n.0.set n.0.too_fast_lem,
+    λ r. let n = refused_names order o e r.0 r.1 in above_none o n.0.set n.0.too_fast,
     λ no. elim (free_or_above o (read_fits last order o e)) [
       | inl f ↦ absurd (no f)
-      | inr t ↦ (too_fast o t.set, above o t.set e t.first t.too_fast_lem)
+      | inr t ↦ (too_fast o t.set, above o t.set e t.first t.too_fast)
     ],
   )
 
   -- accepted exactly if one exists
   pub accepted_exactly : Accepts last order o ↔ FreePlan o
   accepted_exactly = (
-    λ a. elim (free_or_above o (read_fits last order o e)) [ inl f ↦ f | inr t ↦ absurd (a.slow t.set t.first t.too_fast_lem) ],
+    λ a. elim (free_or_above o (read_fits last order o e)) [ inl f ↦ f | inr t ↦ absurd (a.slow t.set t.first t.too_fast) ],
     λ f. record { reads = e; slow = λ A first t. above_none o A t f },
   )
 
@@ -111,7 +111,7 @@ module _ (last : ℕ) (order : List ℕ) (o : Order) (e : read_order last order 
   pub accepted_or_refused : Accepts last order o ⊎ ((a : Answer) × Refuses last order a)
   accepted_or_refused = elim (free_or_above o (read_fits last order o e)) [
     | inl f ↦ inl (accepted_exactly.1 f)
-    | inr t ↦ inr (too_fast o t.set, above o t.set e t.first t.too_fast_lem)
+    | inr t ↦ inr (too_fast o t.set, above o t.set e t.first t.too_fast)
   ]
 
   -- "and the set that shows it is named": the answer has the first class, its W and P, and these are above the top rate
@@ -119,7 +119,7 @@ module _ (last : ℕ) (order : List ℕ) (o : Order) (e : read_order last order 
       → (A : Doses) × FirstClass o A × (a ≡ too_fast o A) × (a.time * o.top_grams < a.weight * o.top_seconds)
   names_the_set a r =
       let n = refused_names order o e a r in
-      (n.0.set, n.0.first, n.1, rw n.1 (ltb→lt _ _ n.0.too_fast_lem))
+      (n.0.set, n.0.first, n.1, rw n.1 (ltb→lt _ _ n.0.too_fast))
 
 -- why it shows it: no plan is within the top rate if any set is above it
 pub the_set_shows_it : (o : Order) (A : Doses) → P (setting_of o) (fans_present o) A * o.top_grams < W (setting_of o) A * o.top_seconds → FreePlan o → ⊥

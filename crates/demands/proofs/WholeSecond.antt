@@ -85,7 +85,7 @@ module _ (last : ℕ) (order : List ℕ) (o : Order) (e : read_order last order 
   dosing_exactly_with_a_fan = (
     λ z. let f = dosing_exactly_with_slot_time.0 z in has_fan f.0 f.1,
     λ h. let u = h.has in
-        dosing_exactly_with_slot_time.1 (u.slot, fan_feeds h.within u (omega (arith, (named u.slot u.one).start_part_lem))),
+        dosing_exactly_with_slot_time.1 (u.slot, fan_feeds h.within u (omega (arith, (named u.slot u.one).start_part))),
   )
     where
       -- at the start of the slot, or of the second if that is later

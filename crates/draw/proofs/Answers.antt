@@ -8,4 +8,4 @@ use Rattle.model.proofs.Answers.{judged_zero}
 
 -- the verdict 0: the order is accepted and the plan stands
 pub judged_sound : {order plan : List ℕ} {a : Answer} → Judges order plan a → a.number ≡ 0 → Sound order plan
-judged_sound j e = let s = judged_zero j e in record { read_order_lem = s.0; accepts = s.1; stands = s.2 }
+judged_sound j e = let s = judged_zero j e in record { read_order = s.0; accepts = s.1; stands = s.2 }

@@ -11,7 +11,7 @@ use Rattle.model.specs.Orders.{read_order}
 use Rattle.model.specs.Orders as orders
 use Rattle.model.specs.Plans.{plan_records, slots_read}
 use Rattle.model.specs.Line.{Point, point_at}
-use Rattle.model.specs.Answers.{Answer, Drawn, Draws, Judges, Moves, at_end, done, draws, moves, no_dose_lem, no_point, refusal, refuses, too_late}
+use Rattle.model.specs.Answers.{Answer, Drawn, Draws, Judges, Moves, at_end, done, draws, moves, no_such_dose, no_point, refusal, refuses, too_late}
 use Rattle.model.proofs.Orders.{read_fits}
 use Rattle.order.specs.Held.{ReadFrom, as_order, held_order, held_reading}
 use Rattle.order.specs.declared.Reading.{Reading}
@@ -30,7 +30,7 @@ held_count o = refl
 
 module _ {order plan : List ℕ} (s : Sound order plan) {r : Reading} (h : ReadFrom most_bay order r) (d t : ℕ) where
   abbrev o : orders.Order
-  o = s.read_order_lem
+  o = s.read_order
 
   pub count_again : r.order.count ≡ length o.doses
   count_again = rw (held_again order r h o s.accepts.reads) (held_count o)
@@ -42,7 +42,7 @@ module _ {order plan : List ℕ} (s : Sound order plan) {r : Reading} (h : ReadF
   drawable l = stands_drawable order o s.accepts.reads plan s.stands d (omega (arith, count_again))
 
   pub draws_no_dose : (x : Drawn) → x ≡ no_point (refusal 11 0) → r.order.count ≤ d → Draws order plan d t x
-  draws_no_dose x e l = rw e (no_dose_lem o s.accepts s.stands (omega (arith, count_again)))
+  draws_no_dose x e l = rw e (no_such_dose o s.accepts s.stands (omega (arith, count_again)))
 
   pub draws_too_late : (x : Drawn) → x ≡ no_point (refusal 12 0) → d < r.order.count → week < t → Draws order plan d t x
   draws_too_late x e l g = rw e (too_late o s.accepts s.stands (omega (arith, count_again)) g)
@@ -64,7 +64,7 @@ pub moves_by : {order plan : List ℕ} {d next : ℕ} {x : Drawn} (t : ℕ) → 
     → (x.answer.number ≢ 0 → Moves order plan (record { dose = d; tick = t }) x (record { dose = d; tick = t }))
     × (x.answer.number ≡ 0 → Moves order plan (record { dose = d; tick = t }) x (record { dose = d; tick = next }))
 moves_by t q (refuses a j n) = (λ m. refuses a j n, λ e. absurd (n e))
-moves_by t q (no_dose_lem o acc st l) = (λ m. no_dose_lem o acc st l, λ e. absurd (omega arith))
+moves_by t q (no_such_dose o acc st l) = (λ m. no_such_dose o acc st l, λ e. absurd (omega arith))
 moves_by t q (too_late o acc st l g) = (λ m. at_end o acc st l (omega arith), λ e. absurd (omega arith))
 moves_by {next = next} t q (draws o acc st l g) =
     let e : next ≡ t + 1 = omega arith in

@@ -88,6 +88,6 @@ pub record Drawable (plan : List ℕ) (d : ℕ) : Type 0 where
 
 -- the order is accepted and the plan stands for it: what is left to check is 11 and 12
 pub record Sound (order plan : List ℕ) : Type 0 where
-  pub read_order_lem : Order
-  pub accepts : Accepts most_bay order read_order_lem
-  pub stands : Stands read_order_lem plan
+  pub read_order : Order
+  pub accepts : Accepts most_bay order read_order
+  pub stands : Stands read_order plan

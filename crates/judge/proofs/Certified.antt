@@ -124,8 +124,8 @@ module _ (o : Order) (fit : Fit o) (h : OrderHeld) (sh : HeldFrom o h) (b : List
         time = f.names.time ∙ c.time ∙ same_time o h sh C (ν - 1);
         fan_from = f.names.fan_from;
         fan_to = omega (arith, f.names.fan_to, sh.fans);
-        start_part_lem = f.long.start_part_lem;
-        end_part_lem = f.long.end_part_lem;
+        start_part = f.long.start_part;
+        end_part = f.long.end_part;
         long = f.long.long;
         window = rw (sh.release s.dose f.dose, sh.deadline s.dose f.dose) at f.window;
         interval = place_in h.instants h.intervals s;
@@ -172,7 +172,7 @@ module _ (o : Order) (fit : Fit o) (h : OrderHeld) (sh : HeldFrom o h) (b : List
         go (by_fan e a) = stands.by_fan (place_in h.instants h.intervals u) (rw e at inside) inside' a
         go (by_time e f a) =
             stands.by_start (place_in h.instants h.intervals u) (rw e at inside) inside' f
-            (omega (arith, a.by, mul-lt-mul_of_pos_left {k = u.weight} fs.long.long (omega (arith, fu.long.start_part_lem))))
+            (omega (arith, a.by, mul-lt-mul_of_pos_left {k = u.weight} fs.long.long (omega (arith, fu.long.start_part))))
 
     fan_apart : s.fan ≡ u.fan → NoOverlap s u
     fan_apart w = go (turn i l pi il lm)
@@ -237,14 +237,14 @@ module _ (o : Order) (fit : Fit o) (h : OrderHeld) (sh : HeldFrom o h) (b : List
       at_row : (k : ℕ) → k < length (plan_of (classes_of o p C) slots) → plan_record_of (record_at b k) k ≡ read (get_or (plan_of (classes_of o p C) slots) k no_record)
       at_row k l = elim (compare≤ p k) [
         | inl g ↦
-            let row = slot_row (record_at b k) k (q.rows.slot_rows_lem k (omega (arith, both)) g) in
+            let row = slot_row (record_at b k) k (q.rows.slot_rows k (omega (arith, both)) g) in
             let e : length (classes_of o p C) + (k - p) ≡ k = omega (arith, classes_long) in
             let z : p + (k - p) ≡ k = omega arith in
             let own = slots_at b p (m - p) (k - p) (omega (arith, both)) ∙ ap (slot_in b) z in
             let there = rw e at (plan_slot (classes_of o p C) slots no_slot (k - p) (omega (arith, length_slots b p (m - p), both))) in
             row ∙ ap read (ap slot_record (sym own) ∙ sym there)
         | inr g ↦
-            class_row (record_at b k) k (q.rows.class_rows_lem k g)
+            class_row (record_at b k) k (q.rows.class_rows k g)
             ∙ ap read (sym (plan_class (classes_of o p C) slots k (omega (arith, classes_long)) _ (gather_at p (class_at o p C) no_class k g ∙ sym (is_class_lem k g))))
       ]
 

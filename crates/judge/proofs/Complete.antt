@@ -51,7 +51,7 @@ module _ (o : Order) (h : OrderHeld) (sh : HeldFrom o h) (s : Slot) (long : Slot
   pub place_is : (j : ℕ) → InInterval o j s → place_in h.instants h.intervals s ≡ j
   place_is j b =
       let l = real_interval j b in
-      let low : instant_at o j ≤ s.start_tick = tick_from (instant_at o j) s.start_tick s.start_part s.weight long.start_part_lem b.low in
+      let low : instant_at o j ≤ s.start_tick = tick_from (instant_at o j) s.start_tick s.start_part s.weight long.start_part b.low in
       let high : s.start_tick < instant_at o (j + 1) = tick_before (instant_at o (j + 1)) s.start_tick s.start_part s.weight (omega (arith, b.high, long.long)) in
       place_at h.instants s.start_tick h.intervals j (omega (arith, sh.intervals))
       (λ i r. omega (arith, instants_up o h sh (i + 1) j (omega arith) (omega (arith, sh.intervals)), sh.instants j (omega (arith, sh.intervals))))
@@ -124,7 +124,7 @@ module _ (o : Order) (fit : Fit o) (h : OrderHeld) (sh : HeldFrom o h) (b : List
   named i l g = rw (at i l g).1 (All-at no_slot st.stand.named (i - p) (listed i l g))
 
   long : (i : ℕ) → i < m → p ≤ i → SlotLong (slot_in b i)
-  long i l g = let n = named i l g in record { start_part_lem = n.start_part_lem; end_part_lem = n.end_part_lem; long = n.long }
+  long i l g = let n = named i l g in record { start_part = n.start_part; end_part = n.end_part; long = n.long }
 
   -- ---- the sets
 
@@ -238,7 +238,7 @@ module _ (o : Order) (fit : Fit o) (h : OrderHeld) (sh : HeldFrom o h) (b : List
         where
           first : NoOverlap (slot_in b i) (slot_in b l) → EndsBy (slot_in b i) (slot_in b l)
           first (inl e) = e
-          first (inr e) = absurd (omega (arith, e.by, t, mul-lt-mul_of_pos_left {k = (slot_in b i).weight} lu.long (omega (arith, ls.start_part_lem))))
+          first (inr e) = absurd (omega (arith, e.by, t, mul-lt-mul_of_pos_left {k = (slot_in b i).weight} lu.long (omega (arith, ls.start_part))))
 
   -- plan bytes that stand pass
   pub stands_passes : Passes h b p N
@@ -246,8 +246,8 @@ module _ (o : Order) (fit : Fit o) (h : OrderHeld) (sh : HeldFrom o h) (b : List
     rows = record {
       whole = whole;
       few = omega (arith, same_p, sh.doses, few_classes S F q D st.classes);
-      class_rows_lem = λ i l. (class_at_lem i (omega (arith, same_p))).0;
-      slot_rows_lem = λ i l g. (at i l g).0;
+      class_rows = λ i l. (class_at_lem i (omega (arith, same_p))).0;
+      slot_rows = λ i l g. (at i l g).0;
       numbered = λ k l. let r = number_of k (omega (arith, sh.doses)) in (omega (arith, r.3), omega (arith, r.3, r.1, same_p));
       falls = λ i l. record {
         fall = rw ((class_at_lem i (omega (arith, same_p))).1, (class_at_lem (i + 1) (omega (arith, same_p))).1) (rates_fall_lem S F q D st.classes i (i + 1) (omega arith) (omega (arith, same_p)));

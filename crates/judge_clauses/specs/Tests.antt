@@ -120,8 +120,8 @@ pub record SlotNames (fans number : ℕ) (c : Class) (s : Slot) : Type 0 where
 
 -- "has both parts below W and start before end"
 pub record SlotLong (s : Slot) : Type 0 where
-  pub start_part_lem : s.start_part < s.weight
-  pub end_part_lem : s.end_part < s.weight
+  pub start_part : s.start_part < s.weight
+  pub end_part : s.end_part < s.weight
   pub long : starts s < ends s
 
 -- "and lies within .. one interval"
@@ -175,8 +175,8 @@ need_in grams plan numbers k = get_or grams k 0 * (class_in plan (get_or numbers
 pub record RowsPass (doses : ℕ) (plan : List ℕ) (p : ℕ) (numbers : List ℕ) : Type 0 where
   pub whole : length plan % record_size ≡ 0
   pub few : p ≤ doses
-  pub class_rows_lem : (i : ℕ) → i < p → ClassRow (record_at plan i)
-  pub slot_rows_lem : (i : ℕ) → i < length plan / record_size → p ≤ i → SlotRow (record_at plan i)
+  pub class_rows : (i : ℕ) → i < p → ClassRow (record_at plan i)
+  pub slot_rows : (i : ℕ) → i < length plan / record_size → p ≤ i → SlotRow (record_at plan i)
   pub numbered : (k : ℕ) → k < doses → (1 ≤ get_or numbers k 0) × (get_or numbers k 0 ≤ p)
   pub falls : (i : ℕ) → i + 1 < p → Falls (class_in plan i) (class_in plan (i + 1))
 

@@ -61,10 +61,10 @@ tick_before d t q w h = elim (compare≤ d t) [
 
 module _ {s u : Slot} (ls : SlotLong s) (lu : SlotLong u) where
   pub ends_earlier : s.end_tick < u.start_tick → EndsBy s u
-  ends_earlier h = record { by = omega (arith, mul-le-mul_right (s.weight * u.weight) h, mul-le-mul_right u.weight (le_of_lt ls.end_part_lem)) }
+  ends_earlier h = record { by = omega (arith, mul-le-mul_right (s.weight * u.weight) h, mul-le-mul_right u.weight (le_of_lt ls.end_part)) }
 
   pub ends_later : u.start_tick < s.end_tick → EndsBy s u → ⊥
-  ends_later h e = omega (arith, e.by, mul-le-mul_right (s.weight * u.weight) h, mul-lt-mul_of_pos_left {k = s.weight} lu.start_part_lem (omega (arith, ls.end_part_lem)))
+  ends_later h e = omega (arith, e.by, mul-le-mul_right (s.weight * u.weight) h, mul-lt-mul_of_pos_left {k = s.weight} lu.start_part (omega (arith, ls.end_part)))
 
   pub ends_together : s.end_tick ≡ u.start_tick → s.end_part * u.weight ≤ u.start_part * s.weight → EndsBy s u
   ends_together h l = record { by = omega (arith, ap (λ (x : ℕ). x * (s.weight * u.weight)) h) }
@@ -98,7 +98,7 @@ module _ (instants : List ℕ) (intervals : ℕ) where
   turn_chain s u v l (by_fan d a) (by_time e f b) = by_fan (d ∙ e) (omega arith)
   turn_chain s u v l (by_time d g a) (by_interval b) = by_interval (omega arith)
   turn_chain s u v l (by_time d g a) (by_fan e b) = by_fan (d ∙ e) (omega arith)
-  turn_chain s u v l (by_time d g a) (by_time e f b) = by_time (d ∙ e) (g ∙ f) (ends_chain s u v a l.long (omega (arith, l.start_part_lem)) b)
+  turn_chain s u v l (by_time d g a) (by_time e f b) = by_time (d ∙ e) (g ∙ f) (ends_chain s u v a l.long (omega (arith, l.start_part)) b)
 
   -- so each before every later one
   pub turns_all : (f : ℕ → Slot) (p m : ℕ) → ((i : ℕ) → i < m → p ≤ i → SlotLong (f i)) → ((i : ℕ) → i + 1 < m → p ≤ i → InTurn instants intervals (f i) (f (i + 1)))

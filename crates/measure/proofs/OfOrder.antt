@@ -72,6 +72,6 @@ module _ (o : Order) (fit : Fit (as_order o)) (s : Instants) (of : InstantsOf o 
     light = λ k. elim (compare≤ o.count k) [ inl h ↦ omega (arith, hg.past k h) | inr h ↦ omega (arith, grams_at k h, fit.light k (omega (arith, doses_is o))) ];
     heavy = λ k q. omega (arith, grams_at k q, fit.some_grams k (omega (arith, doses_is o)));
     no_grams = hg.past;
-    no_dose_lem = λ k j h l q. active_at_lem k j l q ∙ rw (le-ltb k o.count h);
+    no_dose = λ k j h l q. active_at_lem k j l q ∙ rw (le-ltb k o.count h);
     no_interval = λ k j l h q. active_at_lem k j l q ∙ rw (le-ltb j J h) (and_false (ltb k o.count));
   }

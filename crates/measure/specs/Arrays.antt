@@ -89,5 +89,5 @@ pub record OrderArrays (n J : ℕ) (release deadline instants : List ℕ) (activ
   pub light : Below most_grams grams
   pub heavy : (k : ℕ) → k < n → 1 ≤ get_or grams k 0
   pub no_grams : (k : ℕ) → n ≤ k → get_or grams k 0 ≡ 0
-  pub no_dose_lem : (k j : ℕ) → n ≤ k → k < most_doses → j < most_intervals → active_of active k j ≡ false
+  pub no_dose : (k j : ℕ) → n ≤ k → k < most_doses → j < most_intervals → active_of active k j ≡ false
   pub no_interval : (k j : ℕ) → k < most_doses → J ≤ j → j < most_intervals → active_of active k j ≡ false

@@ -129,26 +129,26 @@ one_count g g' = ap (λ (o : Order). (setting_of o).doses) (one_order g g')
 -- a dose at a tick has one point
 pub draws_one : {order plan : List ℕ} {d t : ℕ} {a b : Drawn} → Draws order plan d t a → Draws order plan d t b → a ≡ b
 draws_one (Draws.refuses a j n) (Draws.refuses b k m) = ap no_point (judges_one j k)
-draws_one (Draws.refuses a j n) (Draws.no_dose_lem o g h l) = absurd (stands_refused j n g h)
+draws_one (Draws.refuses a j n) (Draws.no_such_dose o g h l) = absurd (stands_refused j n g h)
 draws_one (Draws.refuses a j n) (Draws.too_late o g h l w) = absurd (stands_refused j n g h)
 draws_one (Draws.refuses a j n) (Draws.draws o g h l w) = absurd (stands_refused j n g h)
-draws_one (Draws.no_dose_lem o g h l) (Draws.refuses b k m) = absurd (stands_refused k m g h)
-draws_one (Draws.no_dose_lem o g h l) (Draws.no_dose_lem o' g' h' l') = refl
-draws_one (Draws.no_dose_lem o g h l) (Draws.too_late o' g' h' l' w') = absurd (omega (arith, one_count g g'))
-draws_one (Draws.no_dose_lem o g h l) (Draws.draws o' g' h' l' w') = absurd (omega (arith, one_count g g'))
+draws_one (Draws.no_such_dose o g h l) (Draws.refuses b k m) = absurd (stands_refused k m g h)
+draws_one (Draws.no_such_dose o g h l) (Draws.no_such_dose o' g' h' l') = refl
+draws_one (Draws.no_such_dose o g h l) (Draws.too_late o' g' h' l' w') = absurd (omega (arith, one_count g g'))
+draws_one (Draws.no_such_dose o g h l) (Draws.draws o' g' h' l' w') = absurd (omega (arith, one_count g g'))
 draws_one (Draws.too_late o g h l w) (Draws.refuses b k m) = absurd (stands_refused k m g h)
-draws_one (Draws.too_late o g h l w) (Draws.no_dose_lem o' g' h' l') = absurd (omega (arith, one_count g g'))
+draws_one (Draws.too_late o g h l w) (Draws.no_such_dose o' g' h' l') = absurd (omega (arith, one_count g g'))
 draws_one (Draws.too_late o g h l w) (Draws.too_late o' g' h' l' w') = refl
 draws_one (Draws.too_late o g h l w) (Draws.draws o' g' h' l' w') = absurd (omega arith)
 draws_one (Draws.draws o g h l w) (Draws.refuses b k m) = absurd (stands_refused k m g h)
-draws_one (Draws.draws o g h l w) (Draws.no_dose_lem o' g' h' l') = absurd (omega (arith, one_count g g'))
+draws_one (Draws.draws o g h l w) (Draws.no_such_dose o' g' h' l') = absurd (omega (arith, one_count g g'))
 draws_one (Draws.draws o g h l w) (Draws.too_late o' g' h' l' w') = absurd (omega arith)
 draws_one {order} {plan} {d} {t} (Draws.draws o g h l w) (Draws.draws o' g' h' l' w') = ap (λ (o : Order). point_of o plan d t) (one_order g g')
 
 -- a pen's answer is the point at its next tick, also where it is refused
 pub pen_draws : {order plan : List ℕ} {pen : Pen} {x : Drawn} {to : Pen} → Moves order plan pen x to → Draws order plan pen.dose (pen.tick + 1) x
 pen_draws (Moves.refuses a j n) = Draws.refuses a j n
-pen_draws (Moves.no_dose_lem o g h l) = Draws.no_dose_lem o g h l
+pen_draws (Moves.no_such_dose o g h l) = Draws.no_such_dose o g h l
 pen_draws (Moves.at_end o g h l w) = Draws.too_late o g h l (omega arith)
 pen_draws (Moves.moves o g h l w) = Draws.draws o g h l (omega arith)
 
@@ -159,7 +159,7 @@ pen_after pen x = pick (eqb x.answer.number 0) (record { dose = pen.dose; tick =
 -- it is there
 pub pen_goes : {order plan : List ℕ} {pen : Pen} {x : Drawn} {to : Pen} → Moves order plan pen x to → to ≡ pen_after pen x
 pen_goes (Moves.refuses a j n) = rw (ne_eqb a.number 0 n)
-pen_goes (Moves.no_dose_lem o g h l) = refl
+pen_goes (Moves.no_such_dose o g h l) = refl
 pen_goes (Moves.at_end o g h l w) = refl
 pen_goes (Moves.moves o g h l w) = refl
 
@@ -174,13 +174,13 @@ moves_one {pen = pen} h k =
 -- a log is laid in one way
 pub lays_one : {order plan : List ℕ} {d : ℕ} {log : List ℕ} {a b : Laid} → Lays order plan d log a → Lays order plan d log b → a ≡ b
 lays_one (Lays.refuses a j n) (Lays.refuses b k m) = ap not_laid (judges_one j k)
-lays_one (Lays.refuses a j n) (Lays.no_dose_lem o g h l) = absurd (stands_refused j n g h)
+lays_one (Lays.refuses a j n) (Lays.no_such_dose o g h l) = absurd (stands_refused j n g h)
 lays_one (Lays.refuses a j n) (Lays.lays o g h l) = absurd (stands_refused j n g h)
-lays_one (Lays.no_dose_lem o g h l) (Lays.refuses b k m) = absurd (stands_refused k m g h)
-lays_one (Lays.no_dose_lem o g h l) (Lays.no_dose_lem o' g' h' l') = refl
-lays_one (Lays.no_dose_lem o g h l) (Lays.lays o' g' h' l') = absurd (omega (arith, one_count g g'))
+lays_one (Lays.no_such_dose o g h l) (Lays.refuses b k m) = absurd (stands_refused k m g h)
+lays_one (Lays.no_such_dose o g h l) (Lays.no_such_dose o' g' h' l') = refl
+lays_one (Lays.no_such_dose o g h l) (Lays.lays o' g' h' l') = absurd (omega (arith, one_count g g'))
 lays_one (Lays.lays o g h l) (Lays.refuses b k m) = absurd (stands_refused k m g h)
-lays_one (Lays.lays o g h l) (Lays.no_dose_lem o' g' h' l') = absurd (omega (arith, one_count g g'))
+lays_one (Lays.lays o g h l) (Lays.no_such_dose o' g' h' l') = absurd (omega (arith, one_count g g'))
 lays_one {plan = plan} {d = d} {log = log} (Lays.lays o g h l) (Lays.lays o' g' h' l') =
     ap (λ (o : Order). laid_by (line_of plan d) (read_log (dose_at o d).bay log)) (one_order g g')
 
@@ -188,7 +188,7 @@ lays_one {plan = plan} {d = d} {log = log} (Lays.lays o g h l) (Lays.lays o' g' 
 pub drawn_refused : {order plan log : List ℕ} {d t : ℕ} {y : Drawn} → Draws order plan d t y → y.answer.number ≢ 0 → y.answer.number ≢ 12
     → Lays order plan d log (not_laid y.answer)
 drawn_refused (Draws.refuses a j n) z late = Lays.refuses a j n
-drawn_refused (Draws.no_dose_lem o g h l) z late = Lays.no_dose_lem o g h l
+drawn_refused (Draws.no_such_dose o g h l) z late = Lays.no_such_dose o g h l
 drawn_refused (Draws.too_late o g h l w) z late = absurd (late refl)
 drawn_refused (Draws.draws o g h l w) z late = absurd (z refl)
 

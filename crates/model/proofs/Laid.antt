@@ -49,11 +49,11 @@ module _ (t : Table) (C : ℕ → Doses) (F j : ℕ) where
   pub record Own (i : ℕ) (s : Slot) : Type 0 where
     pub class : i < p
     pub number : s.class ≡ i + 1
-    pub weight_of_lem : s.weight ≡ weight i
-    pub time_of_lem : s.time ≡ time i
+    pub weight_of : s.weight ≡ weight i
+    pub time_of : s.time ≡ time i
     pub within : Between (start j) (start j + len j) s
-    pub start_part_lem : s.start_part < s.weight
-    pub end_part_lem : s.end_part < s.weight
+    pub start_part : s.start_part < s.weight
+    pub end_part : s.end_part < s.weight
     pub long : starts s < ends s
     pub dose : s.dose < n
     pub some : 0 < share i s.dose j
@@ -75,11 +75,11 @@ module _ (t : Table) (C : ℕ → Doses) (F j : ℕ) where
     own i l = All-imp (λ s h. record {
       class = l;
       number = h.class;
-      weight_of_lem = h.weight;
-      time_of_lem = h.time;
+      weight_of = h.weight;
+      time_of = h.time;
       within = h.within;
-      start_part_lem = h.start_part_lem;
-      end_part_lem = h.end_part_lem;
+      start_part = h.start_part;
+      end_part = h.end_part;
       long = h.long;
       dose = h.dose;
       some = h.some;
@@ -163,19 +163,19 @@ module _ (o : Order) (fit : Fit o) (p : ℕ) (C : ℕ → Doses) (c : Classes (s
           record {
             within = here;
             long = h.long;
-            heavy = omega (arith, h.start_part_lem);
+            heavy = omega (arith, h.start_part);
             named = record {
               dose = h.dose;
               class = i;
               number = h.number;
               known = h.class;
               member = h.member;
-              weight = h.weight_of_lem;
-              time = h.time_of_lem;
+              weight = h.weight_of;
+              time = h.time_of;
               fan_from = omega (arith, h.fan_from);
               fan_to = omega (arith, h.fan_to, sum_before p (λ h. reserved S (fans_present o) C h j) i h.class, (can_run j r).room);
-              start_part_lem = h.start_part_lem;
-              end_part_lem = h.end_part_lem;
+              start_part = h.start_part;
+              end_part = h.end_part;
               long = h.long;
               window = inside opened closed here;
               interval = j;

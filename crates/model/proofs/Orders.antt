@@ -71,8 +71,8 @@ doses_fit last (dose_entry d ∷ es) (also p a) = also p (doses_fit last es a)
 pub record Fit (o : Order) : Type 0 where
   pub fans_least : 1 ≤ o.fans
   pub fans_most : o.fans ≤ most_fans
-  pub top_grams_lem : 1 ≤ o.top_grams
-  pub top_seconds_lem : 1 ≤ o.top_seconds
+  pub top_grams : 1 ≤ o.top_grams
+  pub top_seconds : 1 ≤ o.top_seconds
   pub few : length o.doses ≤ most_doses
   pub window : (k : ℕ) → k < length o.doses → (dose_at o k).release < (dose_at o k).deadline
   pub week : (k : ℕ) → k < length o.doses → (dose_at o k).deadline ≤ week
@@ -132,8 +132,8 @@ order_fits (f ∷ fs) ds one (also p af) few ad free =
     record {
       fans_least = fan.0;
       fans_most = fan.1;
-      top_grams_lem = (in_range 1 most_top f.top_grams r.2).0;
-      top_seconds_lem = (in_range 1 most_top f.top_seconds r.3).0;
+      top_grams = (in_range 1 most_top f.top_grams r.2).0;
+      top_seconds = (in_range 1 most_top f.top_seconds r.3).0;
       few = few;
       window = λ k l. (dose_parts_lem (get_or ds k no_dose) (ad k l)).0;
       week = λ k l. (dose_parts_lem (get_or ds k no_dose) (ad k l)).1;

@@ -156,7 +156,7 @@ module _ (o : Order) (fit : Fit o) (p : ℕ) (C : ℕ → Doses) (c : Classes (s
   -- and nothing else
   slots_take_one : (v : ℕ) → (slots_time slots).units ≡ v * (slots_time slots).per_second → v ≡ sum p (class_p S F C)
   slots_take_one v e =
-      let heavy = All-imp {Q = λ s. 0 < s.weight} (λ s (n : Named o p C s). omega (arith, n.start_part_lem)) st.named in
+      let heavy = All-imp {Q = λ s. 0 < s.weight} (λ s (n : Named o p C s). omega (arith, n.start_part)) st.named in
       eq_of_mul-eq-mul_left (slots_time slots).per_second (units_some heavy) _ _ (omega (arith, e, slots_take))
 
 -- the grams of an order's classes are together those of its doses

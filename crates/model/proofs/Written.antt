@@ -34,15 +34,15 @@ module _ (o : Order) (fit : Fit o) (p : ℕ) (C : ℕ → Doses) where
   narrow_slot few s h =
       let light : s.weight ≤ most_weight = omega (arith, h.weight, W-most o fit p C (C h.class)) in
       let high : ends s ≤ week * s.weight = omega (arith, h.in_interval.high, mul-le-mul_right s.weight (instants_week o fit (h.interval + 1))) in
-      let end : s.end_tick ≤ week = le_of_mul-le-mul_right {k = s.weight} (omega arith) (omega (arith, h.start_part_lem)) in
-      let start : s.start_tick ≤ week = le_of_mul-le-mul_right {k = s.weight} (omega (arith, h.long)) (omega (arith, h.start_part_lem)) in
+      let end : s.end_tick ≤ week = le_of_mul-le-mul_right {k = s.weight} (omega arith) (omega (arith, h.start_part)) in
+      let start : s.start_tick ≤ week = le_of_mul-le-mul_right {k = s.weight} (omega (arith, h.long)) (omega (arith, h.start_part)) in
       record {
         fan = omega (arith, h.fan_to, fit.fans_most);
         dose = omega (arith, h.dose, fit.few);
         start_tick = omega arith;
-        start_part = omega (arith, h.start_part_lem);
+        start_part = omega (arith, h.start_part);
         end_tick = omega arith;
-        end_part = omega (arith, h.end_part_lem);
+        end_part = omega (arith, h.end_part);
         weight = omega arith;
         time = omega (arith, h.time, time_most o fit p C h.class);
         class = omega (arith, h.number, h.known, fit.few);

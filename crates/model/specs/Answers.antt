@@ -116,7 +116,7 @@ point_of o plan d t = record { answer = done; point = point_at o (slots_read (pl
 -- drawing dose d at tick t, 11 "no such dose", 12 "tick over 604,800"
 pub data Draws (order plan : List ℕ) (d t : ℕ) : Drawn → Type 0 where
   refuses : (a : Answer) → Judges order plan a → a.number ≢ 0 → Draws order plan d t (no_point a)
-  no_dose_lem : (o : Order) → Accepts most_bay order o → Stands o plan → (setting_of o).doses ≤ d → Draws order plan d t (no_point (refusal 11 0))
+  no_such_dose : (o : Order) → Accepts most_bay order o → Stands o plan → (setting_of o).doses ≤ d → Draws order plan d t (no_point (refusal 11 0))
   too_late : (o : Order) → Accepts most_bay order o → Stands o plan → d < (setting_of o).doses → week < t → Draws order plan d t (no_point (refusal 12 0))
   draws : (o : Order) → Accepts most_bay order o → Stands o plan → d < (setting_of o).doses → t ≤ week → Draws order plan d t (point_of o plan d t)
 
@@ -130,7 +130,7 @@ pub record Pen : Type 0 where
 -- "moved on by one tick"; "For a pen, 12 comes of the pen's tick before it moves." "A refusal changes no byte and no pen"
 pub data Moves (order plan : List ℕ) (pen : Pen) : Drawn → Pen → Type 0 where
   refuses : (a : Answer) → Judges order plan a → a.number ≢ 0 → Moves order plan pen (no_point a) pen
-  no_dose_lem : (o : Order) → Accepts most_bay order o → Stands o plan → (setting_of o).doses ≤ pen.dose → Moves order plan pen (no_point (refusal 11 0)) pen
+  no_such_dose : (o : Order) → Accepts most_bay order o → Stands o plan → (setting_of o).doses ≤ pen.dose → Moves order plan pen (no_point (refusal 11 0)) pen
   at_end : (o : Order) → Accepts most_bay order o → Stands o plan → pen.dose < (setting_of o).doses → week ≤ pen.tick
       → Moves order plan pen (no_point (refusal 12 0)) pen
   moves : (o : Order) → Accepts most_bay order o → Stands o plan → pen.dose < (setting_of o).doses → pen.tick < week
@@ -159,6 +159,6 @@ laid_by line (refused number place) = not_laid (refusal number place)
 -- laying the bytes of a log beside dose d's line: "Given a dose and a plan that stands, report exactly .."
 pub data Lays (order plan : List ℕ) (d : ℕ) (log : List ℕ) : Laid → Type 0 where
   refuses : (a : Answer) → Judges order plan a → a.number ≢ 0 → Lays order plan d log (not_laid a)
-  no_dose_lem : (o : Order) → Accepts most_bay order o → Stands o plan → (setting_of o).doses ≤ d → Lays order plan d log (not_laid (refusal 11 0))
+  no_such_dose : (o : Order) → Accepts most_bay order o → Stands o plan → (setting_of o).doses ≤ d → Lays order plan d log (not_laid (refusal 11 0))
   lays : (o : Order) → Accepts most_bay order o → Stands o plan → d < (setting_of o).doses
       → Lays order plan d log (laid_by (line_of plan d) (read_log (dose_at o d).bay log))

@@ -58,8 +58,8 @@ module _ (o : Order) where
       pub time : s.time ≡ class_p (setting_of o) (fans_present o) C class
       pub fan_from : 1 ≤ s.fan
       pub fan_to : s.fan ≤ o.fans
-      pub start_part_lem : s.start_part < s.weight
-      pub end_part_lem : s.end_part < s.weight
+      pub start_part : s.start_part < s.weight
+      pub end_part : s.end_part < s.weight
       pub long : starts s < ends s
       pub window : Between (dose_at o s.dose).release (dose_at o s.dose).deadline s
       pub interval : ℕ

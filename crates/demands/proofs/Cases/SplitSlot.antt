@@ -55,8 +55,8 @@ of_dose_0 from to l long h = record {
   time = refl;
   fan_from = omega arith;
   fan_to = omega arith;
-  start_part_lem = omega arith;
-  end_part_lem = omega arith;
+  start_part = omega arith;
+  end_part = omega arith;
   long = omega arith;
   window = record { low = omega arith; high = omega arith };
   interval = 1;
@@ -76,8 +76,8 @@ of_dose_1 = record {
   time = refl;
   fan_from = omega arith;
   fan_to = omega arith;
-  start_part_lem = omega arith;
-  end_part_lem = omega arith;
+  start_part = omega arith;
+  end_part = omega arith;
   long = omega arith;
   window = record { low = omega arith; high = omega arith };
   interval = 0;

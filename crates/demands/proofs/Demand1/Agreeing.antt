@@ -100,7 +100,7 @@ plans_agree {before = before} (Plans.plans w o g p C c x v) (Plans.plans w' o' g
 pub laid_drawn : {order plan : List ℕ} {d : ℕ} {log : List ℕ} {x : Laid} → Lays order plan d log x → 2 ≤ x.answer.number → x.answer.number ≤ 11
     → (t : ℕ) → Draws order plan d t (no_point x.answer)
 laid_drawn (Lays.refuses a j n) = λ low high t. Draws.refuses a j n
-laid_drawn (Lays.no_dose_lem o g h l) = λ low high t. Draws.no_dose_lem o g h l
+laid_drawn (Lays.no_such_dose o g h l) = λ low high t. Draws.no_such_dose o g h l
 laid_drawn {order} {plan} {d} {log} (Lays.lays o g h l) =
     laid_either (λ x. 2 ≤ x.answer.number → x.answer.number ≤ 11 → (t : ℕ) → Draws order plan d t (no_point x.answer)) (line_of plan d) (read_log (dose_at o d).bay log)
     (λ number place e low high. elim (log_number (dose_at o d).bay log number place e) [ inl n ↦ absurd (omega arith) | inr n ↦ absurd (omega arith) ])

@@ -26,14 +26,14 @@ judged_order (Judges.stands o g h) = order_accepted 0 0 o g (omega arith) (λ a 
 -- a point
 pub drawn_order : {order plan : List ℕ} {d t : ℕ} {x : Drawn} → Draws order plan d t x → OfOrder most_bay order x.answer
 drawn_order (Draws.refuses a j n) = judged_order j
-drawn_order (Draws.no_dose_lem o g h l) = order_accepted 11 0 o g (omega arith) (λ a b. refl)
+drawn_order (Draws.no_such_dose o g h l) = order_accepted 11 0 o g (omega arith) (λ a b. refl)
 drawn_order (Draws.too_late o g h l w) = order_accepted 12 0 o g (omega arith) (λ a b. refl)
 drawn_order (Draws.draws o g h l w) = order_accepted 0 0 o g (omega arith) (λ a b. refl)
 
 -- a log
 pub laid_order : {order plan : List ℕ} {d : ℕ} {log : List ℕ} {x : Laid} → Lays order plan d log x → OfOrder most_bay order x.answer
 laid_order (Lays.refuses a j n) = judged_order j
-laid_order (Lays.no_dose_lem o g h l) = order_accepted 11 0 o g (omega arith) (λ a b. refl)
+laid_order (Lays.no_such_dose o g h l) = order_accepted 11 0 o g (omega arith) (λ a b. refl)
 laid_order {order} {plan} {d} {log} (Lays.lays o g h l) =
     laid_either (λ x. OfOrder most_bay order x.answer) (line_of plan d) (read_log (dose_at o d).bay log)
     (λ number place e. elim (log_number (dose_at o d).bay log number place e) [

@@ -184,8 +184,8 @@ module _ (o : Order) where
           time = r.1.0.2.1.1.1;
           fan_from = r.0.1.0;
           fan_to = r.0.1.1.0;
-          start_part_lem = r.0.1.1.1.0;
-          end_part_lem = r.0.1.1.1.1.0;
+          start_part = r.0.1.1.1.0;
+          end_part = r.0.1.1.1.1.0;
           long = r.0.1.1.1.1.1.0;
           window = r.0.1.1.1.1.1.1;
           interval = r.1.1.0;
@@ -193,7 +193,7 @@ module _ (o : Order) where
           in_interval = r.1.1.2;
         })
         (λ n. (
-          (n.dose, (n.fan_from, (n.fan_to, (n.start_part_lem, (n.end_part_lem, (n.long, n.window)))))),
+          (n.dose, (n.fan_from, (n.fan_to, (n.start_part, (n.end_part, (n.long, n.window)))))),
           ((n.class, n.known, (n.number, (n.member, (n.weight, n.time)))), (n.interval, n.in_order, n.in_interval)),
         ))
         (Dec.and by_itself (Dec.and (dec_some (OfClass s) of_class_lem p) (dec_some (λ j. InInterval o j s) (λ j. dec_between _ _ s) J)))
@@ -278,8 +278,8 @@ module _ (o : Order) where
           time = n.time ∙ r.1;
           fan_from = n.fan_from;
           fan_to = n.fan_to;
-          start_part_lem = n.start_part_lem;
-          end_part_lem = n.end_part_lem;
+          start_part = n.start_part;
+          end_part = n.end_part;
           long = n.long;
           window = n.window;
           interval = n.interval;

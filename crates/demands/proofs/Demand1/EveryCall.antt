@@ -62,7 +62,7 @@ module _ (order plan : List ℕ) where
       go (Judges.refuses a r) = (_, Draws.refuses a (Judges.refuses a r) (refuses_some r))
       go (Judges.falls o g h) = (_, Draws.refuses _ (Judges.falls o g h) (omega arith))
       go (Judges.stands o g h) = elim (compare≤ (setting_of o).doses d) [
-        | inl l ↦ (_, Draws.no_dose_lem o g h l)
+        | inl l ↦ (_, Draws.no_such_dose o g h l)
         | inr l ↦ elim (compare≤ t week) [ inl w ↦ (_, Draws.draws o g h l w) | inr w ↦ (_, Draws.too_late o g h l w) ]
       ]
 
@@ -74,7 +74,7 @@ module _ (order plan : List ℕ) where
       go (Judges.refuses a r) = (_, pen, Moves.refuses a (Judges.refuses a r) (refuses_some r))
       go (Judges.falls o g h) = (_, pen, Moves.refuses _ (Judges.falls o g h) (omega arith))
       go (Judges.stands o g h) = elim (compare≤ (setting_of o).doses pen.dose) [
-        | inl l ↦ (_, pen, Moves.no_dose_lem o g h l)
+        | inl l ↦ (_, pen, Moves.no_such_dose o g h l)
         | inr l ↦ elim (compare≤ week pen.tick) [ inl w ↦ (_, pen, Moves.at_end o g h l w) | inr w ↦ (_, _, Moves.moves o g h l w) ]
       ]
 
@@ -86,6 +86,6 @@ module _ (order plan : List ℕ) where
       go (Judges.refuses a r) = (_, Lays.refuses a (Judges.refuses a r) (refuses_some r))
       go (Judges.falls o g h) = (_, Lays.refuses _ (Judges.falls o g h) (omega arith))
       go (Judges.stands o g h) = elim (compare≤ (setting_of o).doses d) [
-        | inl l ↦ (_, Lays.no_dose_lem o g h l)
+        | inl l ↦ (_, Lays.no_such_dose o g h l)
         | inr l ↦ (_, Lays.lays o g h l)
       ]

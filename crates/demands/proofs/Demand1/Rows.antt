@@ -64,7 +64,7 @@ pub data DrawingRow (order plan : List ℕ) (d t : ℕ) : ℕ → ℕ → Type 0
   -- 2 to 10
   by_judging : (number place : ℕ) → JudgingRow order plan number place → number ≢ 0 → DrawingRow order plan d t number place
   -- 11 "no such dose"
-  no_dose_lem : (o : Order) → Accepts most_bay order o → Stands o plan → (setting_of o).doses ≤ d → DrawingRow order plan d t 11 0
+  no_such_dose : (o : Order) → Accepts most_bay order o → Stands o plan → (setting_of o).doses ≤ d → DrawingRow order plan d t 11 0
   -- 12 "tick over 604,800"
   too_late : (o : Order) → Accepts most_bay order o → Stands o plan → d < (setting_of o).doses → week < t → DrawingRow order plan d t 12 0
   -- 0 "done"
@@ -75,7 +75,7 @@ pub data LayingRow (order plan : List ℕ) (d : ℕ) (log : List ℕ) : ℕ → 
   -- 2 to 10
   by_judging : (number place : ℕ) → JudgingRow order plan number place → number ≢ 0 → LayingRow order plan d log number place
   -- 11 "no such dose"
-  no_dose_lem : (o : Order) → Accepts most_bay order o → Stands o plan → (setting_of o).doses ≤ d → LayingRow order plan d log 11 0
+  no_such_dose : (o : Order) → Accepts most_bay order o → Stands o plan → (setting_of o).doses ≤ d → LayingRow order plan d log 11 0
   -- 13 and 14
   bad_log : (o : Order) → Accepts most_bay order o → Stands o plan → d < (setting_of o).doses → (number place : ℕ) → LogGiven (dose_at o d).bay log number place
       → LayingRow order plan d log number place
@@ -91,11 +91,11 @@ GivenExactly a Row = (number place : ℕ) → ((a.number ≡ number) × (a.place
 
 order_row : {last : ℕ} {order : List ℕ} {a : Answer} → Refuses last order a → OrderRow last order a.number a.place
 order_row {last} {order} (unread number place e) = reading number place ((given_exactly last order number place).0 e)
-order_row (above o A e c t) = top_rate o e (record { set = A; first = c; too_fast_lem = t })
+order_row (above o A e c t) = top_rate o e (record { set = A; first = c; too_fast = t })
 
 row_refuses : {last : ℕ} {order : List ℕ} {number place : ℕ} → OrderRow last order number place → (a : Answer) × Refuses last order a × (a.number ≡ number) × (a.place ≡ place)
 row_refuses {last} {order} (reading number place g) = (refusal number place, unread number place ((given_exactly last order number place).1 g), refl, refl)
-row_refuses (top_rate o e f) = (too_fast o f.set, above o f.set e f.first f.too_fast_lem, refl, refl)
+row_refuses (top_rate o e f) = (too_fast o f.set, above o f.set e f.first f.too_fast, refl, refl)
 
 -- an answer that has its row, and that any row's answer is
 exactly : (a : Answer) (Row : ℕ → ℕ → Type 0) → Row a.number a.place
@@ -148,14 +148,14 @@ module _ {order plan : List ℕ} where
   module _ {d t : ℕ} where
     drawing_row : {x : Drawn} → Draws order plan d t x → DrawingRow order plan d t x.answer.number x.answer.place
     drawing_row (Draws.refuses a j n) = by_judging _ _ (judging_row j) n
-    drawing_row (Draws.no_dose_lem o g h l) = no_dose_lem o g h l
+    drawing_row (Draws.no_such_dose o g h l) = no_such_dose o g h l
     drawing_row (Draws.too_late o g h l w) = too_late o g h l w
     drawing_row (Draws.draws o g h l w) = drawn o g h l w
 
     row_draws : {number place : ℕ} → DrawingRow order plan d t number place → (x : Drawn) × Draws order plan d t x × (x.answer.number ≡ number) × (x.answer.place ≡ place)
     row_draws (by_judging number place row n) =
         let b = row_judges row in (_, Draws.refuses b.0 b.1 (λ z. n (sym b.2 ∙ z)), b.2, b.3)
-    row_draws (no_dose_lem o g h l) = (_, Draws.no_dose_lem o g h l, refl, refl)
+    row_draws (no_such_dose o g h l) = (_, Draws.no_such_dose o g h l, refl, refl)
     row_draws (too_late o g h l w) = (_, Draws.too_late o g h l w, refl, refl)
     row_draws (drawn o g h l w) = (_, Draws.draws o g h l w, refl, refl)
 
@@ -170,7 +170,7 @@ module _ {order plan : List ℕ} where
   module _ {d : ℕ} {log : List ℕ} where
     laying_row : {x : Laid} → Lays order plan d log x → LayingRow order plan d log x.answer.number x.answer.place
     laying_row (Lays.refuses a j n) = LayingRow.by_judging _ _ (judging_row j) n
-    laying_row (Lays.no_dose_lem o g h l) = LayingRow.no_dose_lem o g h l
+    laying_row (Lays.no_such_dose o g h l) = LayingRow.no_such_dose o g h l
     laying_row (Lays.lays o g h l) =
         laid_either (λ x. LayingRow order plan d log x.answer.number x.answer.place) (line_of plan d) (read_log (dose_at o d).bay log)
         (λ number place e. bad_log o g h l number place ((log_given_exactly (dose_at o d).bay log number place).0 e))
@@ -181,7 +181,7 @@ module _ {order plan : List ℕ} where
     unfolding laid_by
     row_lays (LayingRow.by_judging number place row n) =
         let b = row_judges row in (_, Lays.refuses b.0 b.1 (λ z. n (sym b.2 ∙ z)), b.2, b.3)
-    row_lays (LayingRow.no_dose_lem o g h l) = (_, Lays.no_dose_lem o g h l, refl, refl)
+    row_lays (LayingRow.no_such_dose o g h l) = (_, Lays.no_such_dose o g h l, refl, refl)
     row_lays (bad_log o g h l number place row) = let e = (log_given_exactly (dose_at o d).bay log number place).1 row in (_, Lays.lays o g h l, rw e, rw e)
     row_lays (laid o g h l records r) = let e = (log_read_exactly (dose_at o d).bay log records).1 r in (_, Lays.lays o g h l, rw e, rw e)
 

@@ -33,7 +33,7 @@ module _ (o : Order) (plan : List ℕ) (st : Stands o plan) (fit : Fit o) where
   -- a slot covers only moments inside its dose's window
   inside : (q x : ℕ) (s : Slot) → Named o st.count st.sets s → Covers q x s
       → ((dose_at o s.dose).release * q ≤ x) × (x < (dose_at o s.dose).deadline * q)
-  inside q x s n = covered (dose_at o s.dose).release (dose_at o s.dose).deadline q x s (omega (arith, n.start_part_lem)) n.window
+  inside q x s n = covered (dose_at o s.dose).release (dose_at o s.dose).deadline q x s (omega (arith, n.start_part)) n.window
 
   -- moments in slots of two doses of one bay have the order's rest between them
   pub slots_rest : (q x y i k : ℕ) (u : Slot) → i < length slots → k < length slots → Covers q x (get_or slots i u) → Covers q y (get_or slots k u)

@@ -38,7 +38,7 @@ pub planned : (order before : List ℕ) (o : Order) → Accepts last_open_bay or
 planned order before o a room r after (no_room small) = absurd (omega arith)
 planned order before o a room r after (refuses l b refuse) =
     let n = refused_names order o a.reads b refuse in
-    absurd (a.slow n.0.set n.0.first n.0.too_fast_lem)
+    absurd (a.slow n.0.set n.0.first n.0.too_fast)
 planned order before o a room r after (plans l o' a' p C c x v) =
     let reads = a.reads in
     let reads' = a'.reads in

@@ -33,14 +33,14 @@ above_none o A t = none_above o A (ltb→lt (P (setting_of o) (fans_present o) A
 pub record TooFast (o : Order) : Type 0 where
   pub set : Doses
   pub first : FirstClass o set
-  pub too_fast_lem : T (above_top o set)
+  pub too_fast : T (above_top o set)
 
 -- an order that is read and refused has one, and it is what the refusal names
 pub refused_names : {last : ℕ} (order : List ℕ) (o : Order) → read_order last order ≡ read o → (a : Answer) → Refuses last order a → (f : TooFast o) × (a ≡ too_fast o f.set)
 refused_names order o e a (unread number place g) = let z : ◌≡◌ {A = ℕ} 0 1 = cc in absurd (omega arith)
 refused_names order o e a (above o' A g first t) =
     let same : o' ≡ o = cc in
-    subst (λ (x : Order). (f : TooFast x) × (too_fast o' A ≡ too_fast x f.set)) same (record { set = A; first = first; too_fast_lem = t }, refl)
+    subst (λ (x : Order). (f : TooFast x) × (too_fast o' A ≡ too_fast x f.set)) same (record { set = A; first = first; too_fast = t }, refl)
 
 -- an order that fits has a plan within the top rate, or a first class above it
 pub free_or_above : (o : Order) → Fit o → FreePlan o ⊎ TooFast o
@@ -58,7 +58,7 @@ free_or_above o fit =
         | inr h ↦ inr (record {
           set = C 0;
           first = first_class o p C c l;
-          too_fast_lem = lt→ltb (P (setting_of o) (fans_present o) (C 0) * o.top_grams) (W (setting_of o) (C 0) * o.top_seconds) h;
+          too_fast = lt→ltb (P (setting_of o) (fans_present o) (C 0) * o.top_grams) (W (setting_of o) (C 0) * o.top_seconds) h;
         })
       ]
     ]

@@ -53,7 +53,7 @@ module _ (o : Order) (plan : List ℕ) (st : Stands o plan) where
       (λ e. never (Pairs-at u stand.fans_apart i i' l l' e), λ e. never (Pairs-at u stand.doses_apart i i' l l' e))
     where
       some_weight : (k : ℕ) → k < length slots → 0 < (get_or slots k u).weight
-      some_weight k h = omega (arith, (All-at u stand.named k h).start_part_lem)
+      some_weight k h = omega (arith, (All-at u stand.named k h).start_part)
 
       never : NoOverlap (get_or slots i u) (get_or slots i' u) → ⊥
       never (inl e) = ends_before q x _ _ e (some_weight i' l') c c'

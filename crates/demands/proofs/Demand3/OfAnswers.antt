@@ -16,7 +16,7 @@ use Rattle.model.specs.Intervals.{fans_present, setting_of}
 use Rattle.model.specs.Plans.{Slot, plan_records, slots_read}
 use Rattle.model.specs.Stands.{Stands, ends, starts}
 use Rattle.model.specs.Line.{HasFan, OneOf, RunsAt, drawn, idle, state_at, time_of, units_before, weight_of}
-use Rattle.model.specs.Answers.{Accepts, Drawn, Draws, draws, no_dose_lem, point_of, refuses, too_late}
+use Rattle.model.specs.Answers.{Accepts, Drawn, Draws, draws, no_such_dose, point_of, refuses, too_late}
 use Rattle.model.proofs.Fractions.{pos_left}
 use Rattle.demands.proofs.Demand2.Standing.{slot_named}
 use Rattle.demands.proofs.Demand3.States.{InSecond, fan_feeds, idle_means}
@@ -24,17 +24,17 @@ use Rattle.demands.proofs.Demand3 as demand
 
 -- an answer that is no refusal: the order is accepted, the plan stands, and the answer is the point
 record Done (order plan : List ℕ) (d t : ℕ) (x : Drawn) : Type 0 where
-  read_order_lem : Order
-  accepts : Accepts most_bay order read_order_lem
-  stands : Stands read_order_lem plan
-  listed : d < (setting_of read_order_lem).doses
-  is : x ≡ point_of read_order_lem plan d t
+  read_order : Order
+  accepts : Accepts most_bay order read_order
+  stands : Stands read_order plan
+  listed : d < (setting_of read_order).doses
+  is : x ≡ point_of read_order plan d t
 
 drawn_done : (order plan : List ℕ) (d t : ℕ) (x : Drawn) → Draws order plan d t x → x.answer.number ≡ 0 → Done order plan d t x
 drawn_done order plan d t x (refuses a j n) e = absurd (n e)
-drawn_done order plan d t x (no_dose_lem o acc st l) e = absurd (omega arith)
+drawn_done order plan d t x (no_such_dose o acc st l) e = absurd (omega arith)
 drawn_done order plan d t x (too_late o acc st l g) e = absurd (omega arith)
-drawn_done order plan d t x (draws o acc st l g) e = record { read_order_lem = o; accepts = acc; stands = st; listed = l; is = refl }
+drawn_done order plan d t x (draws o acc st l g) e = record { read_order = o; accepts = acc; stands = st; listed = l; is = refl }
 
 module _ (order plan : List ℕ) (d : ℕ) where
   -- the slots of the plan
@@ -58,7 +58,7 @@ module _ (order plan : List ℕ) (d : ℕ) where
       → (x.point.amount * time_of slots d ≤ units_before slots d t) × (units_before slots d t < (x.point.amount + 1) * time_of slots d)
   behind_never_ahead t x a =
       let s = done t x a in
-      rw (amount_is t x a) (demand.behind_never_ahead most_bay order s.read_order_lem s.accepts.reads plan s.stands d s.listed t)
+      rw (amount_is t x a) (demand.behind_never_ahead most_bay order s.read_order s.accepts.reads plan s.stands d s.listed t)
 
   module _ (t h : ℕ) (x y : Drawn) (a : Answers t x) (b : Answers (t + h) y) where
     -- "over h seconds it rises by less than h × rate + 1 gram"
@@ -66,14 +66,14 @@ module _ (order plan : List ℕ) (d : ℕ) where
     rises_slowly =
         let s = done t x a in
         rw (amount_is t x a, amount_is (t + h) y b)
-        (demand.rises_slowly most_bay order s.read_order_lem s.accepts.reads plan s.stands d s.listed t h)
+        (demand.rises_slowly most_bay order s.read_order s.accepts.reads plan s.stands d s.listed t h)
 
     -- and never falls
     pub never_falls : x.point.amount ≤ y.point.amount
     never_falls =
         let s = done t x a in
         rw (amount_is t x a, amount_is (t + h) y b)
-        (demand.never_falls most_bay order s.read_order_lem s.accepts.reads plan s.stands d s.listed t h)
+        (demand.never_falls most_bay order s.read_order s.accepts.reads plan s.stands d s.listed t h)
 
     -- "and not at all where the dose has no slot time"
     pub still_without_slot_time : ((s : Slot) → OneOf slots s → s.dose ≡ d → (ends s ≤ t * s.weight) ⊎ ((t + h) * s.weight ≤ starts s))
@@ -81,10 +81,10 @@ module _ (order plan : List ℕ) (d : ℕ) where
     still_without_slot_time g =
         let s = done t x a in
         rw (amount_is t x a, amount_is (t + h) y b)
-        (demand.still_without_slot_time most_bay order s.read_order_lem s.accepts.reads plan s.stands d s.listed t h g)
+        (demand.still_without_slot_time most_bay order s.read_order s.accepts.reads plan s.stands d s.listed t h g)
 
   module _ (t : ℕ) (x : Drawn) (a : Answers t x) (o : Order) (e : read_order most_bay order ≡ read o) where
-    same_order : (done t x a).read_order_lem ≡ o
+    same_order : (done t x a).read_order ≡ o
     same_order = let f = (done t x a).accepts.reads in cc
 
     -- the plan stands for the order
@@ -99,13 +99,13 @@ module _ (order plan : List ℕ) (d : ℕ) where
     pub zero_up_to_the_start : t ≤ (dose_at o d).release → x.point.amount ≡ 0
     zero_up_to_the_start l =
         let s = done t x a in
-        amount_is t x a ∙ demand.zero_up_to_the_start most_bay order s.read_order_lem s.accepts.reads plan s.stands d s.listed t (rw same_order l)
+        amount_is t x a ∙ demand.zero_up_to_the_start most_bay order s.read_order s.accepts.reads plan s.stands d s.listed t (rw same_order l)
 
     -- "all the grams from the deadline on"
     pub all_from_the_deadline : (dose_at o d).deadline ≤ t → x.point.amount ≡ (dose_at o d).grams
     all_from_the_deadline l =
         let s = done t x a in
-        amount_is t x a ∙ demand.all_from_the_deadline most_bay order s.read_order_lem s.accepts.reads plan s.stands d s.listed t (rw same_order l)
+        amount_is t x a ∙ demand.all_from_the_deadline most_bay order s.read_order s.accepts.reads plan s.stands d s.listed t (rw same_order l)
         ∙ ap (λ (u : Order). (dose_at u d).grams) same_order
 
     -- the W and P of the dose's slots, its rate, are those of its class
@@ -132,5 +132,5 @@ module _ (order plan : List ℕ) (d : ℕ) where
           i.1,
           λ q m w. waits_only_while_all_fans_run q m (pos_left m q (t + 1) w.high)
               (omega (arith, mul-le-mul_left q i.0, w.low)) (omega (arith, mul-le-mul_left q i.1, w.high))
-              (λ h. i.2 h.slot (fan_feeds w h (omega (arith, (slot_named o plan stands h.slot h.one).start_part_lem)))),
+              (λ h. i.2 h.slot (fan_feeds w h (omega (arith, (slot_named o plan stands h.slot h.one).start_part)))),
         )

@@ -81,7 +81,7 @@ module _ (S : Setting) (G : House S) (Z : Pieces) (h : Runs S G Z) where
       pub covers : T (cover (s piece) (e piece) x)
       pub class : ℕ
       pub no_later : class ≤ i
-      pub of_class_lem : T (C class (dose piece))
+      pub of_class : T (C class (dose piece))
       pub no_slower_than : W S (C i) * class_p S (crew G) C class ≤ W S (C class) * class_p S (crew G) C i
 
     served : (i x f : ℕ) → i < p → (q : ℕ) → q < m → T (upto C (suc i) (dose q) && cover (s q) (e q) x) → fan q ≡ f → Served i x f
@@ -94,7 +94,7 @@ module _ (S : Setting) (G : House S) (Z : Pieces) (h : Runs S G Z) where
           covers = and_right (upto C (suc i) (dose q)) (cover (s q) (e q) x) t;
           class = g.0;
           no_later = le_of_suc-le-suc g.1;
-          of_class_lem = g.2;
+          of_class = g.2;
           no_slower_than = no_slower S (crew G) p C c g.0 i (le_of_suc-le-suc g.1) il;
         }
 

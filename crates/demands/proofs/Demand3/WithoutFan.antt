@@ -94,7 +94,7 @@ module _ (o : Order) (fit : Fit o) (p : ℕ) (C : ℕ → Doses) (c : Classes (s
       let s = slot_at slots r.piece in
       let n = named_at o p C q slots st r.piece r.listed in
       let own = dose_rate o fit p C c slots st d dn m in
-      let his = names_class o fit p C c slots st s.dose n.dose (record { class = r.class; known = omega (arith, r.no_later, m.known); member = r.of_class_lem }) r.piece r.listed refl in
+      let his = names_class o fit p C c slots st s.dose n.dose (record { class = r.class; known = omega (arith, r.no_later, m.known); member = r.of_class }) r.piece r.listed refl in
       let faster = subst (λ (F : Row). W S (C m.class) * class_p S F C r.class ≤ W S (C r.class) * class_p S F C m.class) (crew_all o) r.no_slower_than in
       record {
         slot = s;

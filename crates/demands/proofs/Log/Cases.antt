@@ -44,7 +44,7 @@ laid_so order plan o g h d log = dose (leb (setting_of o).doses d) refl
   where
     dose : (b : Bool) → leb (setting_of o).doses d ≡ b
         → Lays order plan d log (pick b (not_laid (refusal 11 0)) (laid_by (line_of plan d) (read_log (dose_at o d).bay log)))
-    dose true e = Lays.no_dose_lem o g h (leb-true _ _ e)
+    dose true e = Lays.no_such_dose o g h (leb-true _ _ e)
     dose false e = Lays.lays o g h (leb-false _ _ e)
 
 -- a row that passes is right

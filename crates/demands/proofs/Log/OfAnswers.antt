@@ -24,29 +24,29 @@ use Rattle.demands.proofs.Log as laid
 
 -- an answer that is no refusal: the order is accepted, the plan stands, the log is read, and the figures are its own
 pub record LogLaid (order plan : List ℕ) (d : ℕ) (log : List ℕ) (x : Laid) : Type 0 where
-  pub read_order_lem : Order
-  pub accepts : Accepts most_bay order read_order_lem
-  pub stands : Stands read_order_lem plan
-  pub listed : d < (setting_of read_order_lem).doses
+  pub read_order : Order
+  pub accepts : Accepts most_bay order read_order
+  pub stands : Stands read_order plan
+  pub listed : d < (setting_of read_order).doses
   pub records : List Logged
-  pub reads : read_log (dose_at read_order_lem d).bay log ≡ read records
+  pub reads : read_log (dose_at read_order d).bay log ≡ read records
   pub is : x.figures ≡ figures (line_of plan d) records
 
 -- laying answered 0
 pub laid_done : {order plan : List ℕ} {d : ℕ} {log : List ℕ} {x : Laid} → Lays order plan d log x → x.answer.number ≡ 0 → LogLaid order plan d log x
 laid_done (Lays.refuses a j n) = λ e. absurd (n e)
-laid_done (Lays.no_dose_lem o acc st l) = λ e. absurd (omega arith)
+laid_done (Lays.no_such_dose o acc st l) = λ e. absurd (omega arith)
 laid_done {order} {plan} {d} {log} (Lays.lays o acc st l) =
     laid_either (λ x. x.answer.number ≡ 0 → LogLaid order plan d log x) (line_of plan d) (read_log (dose_at o d).bay log)
     (λ number place q e. elim (log_number (dose_at o d).bay log number place q) [ inl n ↦ absurd (omega arith) | inr n ↦ absurd (omega arith) ])
-    (λ records q e. record { read_order_lem = o; accepts = acc; stands = st; listed = l; records = records; reads = q; is = refl })
+    (λ records q e. record { read_order = o; accepts = acc; stands = st; listed = l; records = records; reads = q; is = refl })
 
 module _ (order plan : List ℕ) (d : ℕ) (log : List ℕ) (x : Laid) (h : Lays order plan d log x) (z : x.answer.number ≡ 0)
     (o : Order) (e : read_order most_bay order ≡ read o) (records : List Logged) (r : read_log (dose_at o d).bay log ≡ read records) where
   done : LogLaid order plan d log x
   done = laid_done h z
 
-  same_order : done.read_order_lem ≡ o
+  same_order : done.read_order ≡ o
   same_order = let f = done.accepts.reads in cc
 
   same_records : done.records ≡ records
@@ -116,7 +116,7 @@ unfolding laid_by
 continued_adds_up order plan d log log' c short x y z hx hy hz ex ey =
     let a = laid_done hx ex in
     let b = laid_done hy ey in
-    let o = a.read_order_lem in
+    let o = a.read_order in
     let j = joined_add_up (line_of plan d) (dose_at o d).bay log log' c short a.records b.records a.reads (rw (one_order b.accepts a.accepts) at b.reads) in
     let same = rw j.1 at (lays_one hz (Lays.lays o a.accepts a.stands a.listed)) in
     (ap (λ (l : Laid). l.answer.number) same, rw (a.is, b.is, same) j.2)

@@ -25,8 +25,8 @@ module _ (rest : ℕ) (o : Order) where
     time = n.time;
     fan_from = n.fan_from;
     fan_to = n.fan_to;
-    start_part_lem = n.start_part_lem;
-    end_part_lem = n.end_part_lem;
+    start_part = n.start_part;
+    end_part = n.end_part;
     long = n.long;
     window = n.window;
     interval = n.interval;

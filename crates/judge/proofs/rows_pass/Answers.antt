@@ -11,10 +11,10 @@ pub returns-then-doses-p : goal.returns-then-doses-p
 returns-then-doses-p c = tells_off (λ h. omega (arith, h.few, c.if-doses-p.true))
 
 pub returns-then-not-class_rows : goal.returns-then-not-class_rows
-returns-then-not-class_rows c = tells_off (λ h. tells_not c.class_rows.ensures c.if-not-class_rows.true h.class_rows_lem)
+returns-then-not-class_rows c = tells_off (λ h. tells_not c.class_rows.ensures c.if-not-class_rows.true h.class_rows)
 
 pub returns-then-not-slot_rows : goal.returns-then-not-slot_rows
-returns-then-not-slot_rows c = tells_off (λ h. tells_not c.slot_rows.ensures c.if-not-slot_rows.true h.slot_rows_lem)
+returns-then-not-slot_rows c = tells_off (λ h. tells_not c.slot_rows.ensures c.if-not-slot_rows.true h.slot_rows)
 
 pub returns-then-not-all_numbered : goal.returns-then-not-all_numbered
 returns-then-not-all_numbered c = tells_off (λ h. tells_not c.all_numbered.ensures c.if-not-all_numbered.true h.numbered)
@@ -25,8 +25,8 @@ returns c =
     (λ falls. record {
       whole = c.if-plan-ne0.false;
       few = c.if-doses-p.false;
-      class_rows_lem = tells_was c.class_rows.ensures c.if-not-class_rows.false;
-      slot_rows_lem = tells_was c.slot_rows.ensures c.if-not-slot_rows.false;
+      class_rows = tells_was c.class_rows.ensures c.if-not-class_rows.false;
+      slot_rows = tells_was c.slot_rows.ensures c.if-not-slot_rows.false;
       numbered = tells_was c.all_numbered.ensures c.if-not-all_numbered.false;
       falls = falls;
     })

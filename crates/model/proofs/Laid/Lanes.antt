@@ -22,8 +22,8 @@ module _ (l : Lane) (x : ℕ → ℕ) (n m : ℕ) (heavy : 0 < l.weight) (wide :
   -- a slot of the class in the interval
   pub record LaneSlot (s : Slot) : Type 0 where
     pub within : Between l.start (l.start + l.len) s
-    pub start_part_lem : s.start_part < s.weight
-    pub end_part_lem : s.end_part < s.weight
+    pub start_part : s.start_part < s.weight
+    pub end_part : s.end_part < s.weight
     pub long : starts s < ends s
     pub dose : s.dose < n
     pub some : 0 < x s.dose
@@ -52,8 +52,8 @@ module _ (l : Lane) (x : ℕ → ℕ) (n m : ℕ) (heavy : 0 < l.weight) (wide :
       let b = moment l.start t.high l.weight in
       record {
         within = record { low = omega (arith, a); high = omega (arith, h.fits, b) };
-        start_part_lem = mod-lt t.low heavy;
-        end_part_lem = mod-lt t.high heavy;
+        start_part = mod-lt t.low heavy;
+        end_part = mod-lt t.high heavy;
         long = omega (arith, h.long, a, b);
         dose = h.dose;
         some = h.some;
