@@ -17,7 +17,7 @@ use Rattle.model.specs.Intervals.{fans_present, setting_of}
 use Rattle.model.specs.Plans.{Slot, plan_records, slots_read}
 use Rattle.model.specs.Stands.{Named, SlotsStand, Stands, ends, starts, units_of}
 use Rattle.model.specs.Answers.{Answer, done, refusal}
-use Rattle.model.specs.Season.{AddedUp, AddsUp, Comes, FirstRate, Outcome, Rate, Takes, accepted_with, first_class, no_class_lem, not_added_up, refused_by, season_of, slots_time}
+use Rattle.model.specs.Season.{AddedUp, AddsUp, Comes, FirstRate, Outcome, Rate, Takes, accepted_with, first_class, no_first_class, not_added_up, refused_by, season_of, slots_time}
 use Rattle.model.proofs.Lists.{All-imp, Along-one, total_at, total_congr}
 use Rattle.model.proofs.Orders.{Fit, read_fits}
 use Rattle.model.proofs.Readings.{no_refusal}
@@ -193,9 +193,9 @@ module _ (o : Order) (fit : Fit o) (plan : List ℕ) (st : Stands o plan) where
 
 -- an order has one first class, or none
 first_rate_one : (o : Order) (r r' : Rate) → FirstRate o r → FirstRate o r' → r ≡ r'
-first_rate_one o r r' (no_class_lem z) (no_class_lem z') = refl
-first_rate_one o r r' (no_class_lem z) (first_class A f) = absurd (omega (arith, z, f.some.1))
-first_rate_one o r r' (first_class A f) (no_class_lem z) = absurd (omega (arith, z, f.some.1))
+first_rate_one o r r' (no_first_class z) (no_first_class z') = refl
+first_rate_one o r r' (no_first_class z) (first_class A f) = absurd (omega (arith, z, f.some.1))
+first_rate_one o r r' (first_class A f) (no_first_class z) = absurd (omega (arith, z, f.some.1))
 first_rate_one o r r' (first_class A f) (first_class B g) =
     let same = next_unique (setting_of o) (fans_present o) (λ k. true) A B f g in
     let weight = weight_alike (setting_of o).doses (setting_of o).grams A B same in

@@ -80,7 +80,7 @@ no_rate = record { weight = 0; time = 1 }
 
 -- the W and P of an order's first class
 pub data FirstRate (o : Order) : Rate → Type 0 where
-  no_class_lem : (setting_of o).doses ≡ 0 → FirstRate o no_rate
+  no_first_class : (setting_of o).doses ≡ 0 → FirstRate o no_rate
   first_class : (A : Doses) → FirstClass o A → FirstRate o (record { weight = W (setting_of o) A; time = P (setting_of o) (fans_present o) A })
 
 -- the greater of two rates, by exact products; "the earliest on a tie": the second one only if it is above the first

@@ -20,7 +20,7 @@ use Rattle.model.specs.Plans.{Class}
 use Rattle.model.specs.Layout.{class_at, classes_of}
 use Rattle.model.specs.Stands.{Stands}
 use Rattle.model.specs.Answers.{Accepts, Answer, Judges, done, refusal}
-use Rattle.model.specs.Season.{AddsUp, Comes, FirstRate, Season, accepted_with, first_class, no_class_lem, no_rate, not_added_up, read_stream, refused_by, season_of}
+use Rattle.model.specs.Season.{AddsUp, Comes, FirstRate, Season, accepted_with, first_class, no_first_class, no_rate, not_added_up, read_stream, refused_by, season_of}
 use Rattle.model.specs.Cases.{Case, JudgingRight, case_sets, case_plan}
 use Rattle.model.specs.CaseTests.{all_below, all_in, class_test, done_test, nothing_test, plan_test, point_test, reading_test, records_test, same_answer, same_list, shares_test, slow_test}
 use Rattle.model.specs.SeasonCases.{SeasonCase, SeasonRight, added_test, case_outcome, first_in, judged_test, same_season, season_cases_pass, season_cases, season_test}
@@ -57,7 +57,7 @@ module _ (o : Order) (p : ℕ) (C : ℕ → Doses) (c : Classes (setting_of o) (
   -- the first C record has the first class's W and P
   first_right : FirstRate o (first_in (classes_of o p C))
   first_right = elim (eq-zero-or-pos p) [
-    | inl z ↦ subst (FirstRate o) (sym (none_first o p C z)) (no_class_lem (no_doses o p C c z))
+    | inl z ↦ subst (FirstRate o) (sym (none_first o p C z)) (no_first_class (no_doses o p C c z))
     | inr l ↦ subst (FirstRate o) (sym (some l)) (first_class (C 0) (first_next o p C c l))
   ]
     where

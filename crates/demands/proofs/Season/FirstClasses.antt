@@ -10,7 +10,7 @@ use lib.ListN.{length, get_or}
 use Rattle.model.specs.Limits.{most_bay}
 use Rattle.model.specs.Lists.{All, Along, also, beside, ended, none}
 use Rattle.model.specs.Orders.{Order}
-use Rattle.model.specs.Season.{Comes, FirstRate, Outcome, Rate, first_of, first_class, greater, greatest_from, no_class_lem, no_rate, refused_by}
+use Rattle.model.specs.Season.{Comes, FirstRate, Outcome, Rate, first_of, first_class, greater, greatest_from, no_first_class, no_rate, refused_by}
 use Rattle.model.proofs.FanTime.{weighs}
 use Rattle.model.proofs.Fractions.{compare≤}
 use Rattle.model.proofs.Orders.{Fit, read_fits}
@@ -60,7 +60,7 @@ none_sound = record { some_time = omega arith; none_or_some = inl refl }
 -- ---- the first classes of orders
 
 pub first_sound : (o : Order) → Fit o → (r : Rate) → FirstRate o r → Sound r
-first_sound o fit r (no_class_lem z) = none_sound
+first_sound o fit r (no_first_class z) = none_sound
 first_sound o fit r (first_class A f) =
     record { some_time = starts_open o fit A f.some; none_or_some = inr (weighs (setting_of o) (heavy o fit) A f.some) }
 
