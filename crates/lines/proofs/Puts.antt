@@ -8,10 +8,11 @@ use native.Mathlib.Nat.{add-zero, add-suc}
 use native.Mathlib.Numerals.{add-one}
 use borrow.Author.Tests.{le-ltb, lt-ltb}
 use lib.Dec.{ltb}
-use lib.ListN.{length, get_or, set, take, length-append}
-use lib.Seq.{length-take-le, take_all, take-suc}
+use lib.ListN.{length, get_or, set, take, drop, length-append}
+use lib.Seq.{length-take-le, take_all, take-suc, sets-eq, take-append_seam}
 use Rattle.model.specs.Lists.{gather}
 use Rattle.records.proofs.Laws.{join, length_written, written_none, written_one}
+use Rattle.records.specs.Written.{written}
 use Rattle.lines.specs.Text.{Put, bare_text, decimal, digit_zero, number_text, numbers_text, rest_text}
 
 -- the promise leaves no choice
@@ -21,6 +22,14 @@ put_same h g = (h.now ∙ sym g.now, h.next ∙ sym g.next)
 -- the buffer is as long as before
 pub put_length : {text b b' : List ℕ} {at e : ℕ} → Put text b at b' e → length b' ≡ length b
 put_length {text} {b} {at = at} h = ap length h.now ∙ length_written b at text
+
+-- a text from the first byte on is the buffer's front
+pub put_front : {text b b' : List ℕ} {e : ℕ} → Put text b 0 b' e → e ≤ length b' → take e b' ≡ text
+unfolding written
+put_front {text} {b} {b'} {e} h fits =
+    let size : 0 + length text ≤ length b = omega (arith, h.next, put_length h) in
+    let next : e ≡ length text = omega (arith, h.next) in
+    ap (take e) (h.now ∙ sets-eq text b 0 size) ∙ ap (λ n. take n (text ++ drop (0 + length text) b)) next ∙ take-append_seam text (drop (0 + length text) b)
 
 -- nothing
 pub put_none : (b : List ℕ) (at : ℕ) → Put [] b at b at

@@ -1,7 +1,7 @@
 -- What the printer's text says of an order.
 use Rattle.std.specs.Prelude.{◌≡◌, ◌≢◌, Bool, IfSome, List, ℕ, ℤ, ◌≤◌, eqb, length, pos, take}
 use Rattle.std.specs.Io.KnownBytes.{Appends}
-use Rattle.core.specs.declared.option.Option.{Option}
+use Rattle.std.specs.declared.option.Option.{Option}
 use Rattle.model.specs.Limits.{plan_room}
 use Rattle.model.specs.Records.{pick}
 use Rattle.model.specs.Answers.{Planned, Plans}

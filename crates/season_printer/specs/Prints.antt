@@ -1,7 +1,7 @@
 -- What the program's text says of a stream.
 use Rattle.std.specs.Prelude.{◌≡◌, ◌≢◌, Bool, IfSome, List, ℕ, ℤ, ◌≤◌, eqb, length, pos, take}
 use Rattle.std.specs.Io.KnownBytes.{Appends}
-use Rattle.core.specs.declared.option.Option.{Option}
+use Rattle.std.specs.declared.option.Option.{Option}
 use Rattle.model.specs.Records.{pick}
 use Rattle.model.specs.Season.{AddedUp, AddsUp}
 use Rattle.lines.specs.Text.{Put, refused_text, season_text}
