@@ -14,7 +14,6 @@ use lib.ListN.{length, get_or}
 use Rattle.model.specs.Limits.{most_bay, most_doses, order_room}
 use Rattle.model.specs.Records.{record_size, pick, Reading, read, refused, and_then, dose_kind, fans_parts, dose_parts, blank_at, record_at, read_all}
 use Rattle.model.specs.Orders.{Dose, Entry, fans_of, dose_of, fans_fit, dose_fits, bay_open, checked, entry_of, fans_in, doses_in, no_clash, order_in, order_of, read_order}
-use Rattle.model.proofs.Sums.{last}
 use Rattle.model.proofs.Orders.{bay_most}
 use Rattle.model.proofs.Rests.{FirstOverlap, NoOverlaps, OverlapsEarlier, clash_refuses, first_clash_lem, no_entry}
 use Rattle.model.proofs.Readings.{First, Listed, Says, refusal_says, says_pick, says_then, walk_read, walk_refused, walk_says}

@@ -13,7 +13,6 @@ use Rattle.model.specs.Records.{pick, Reading, read, refused, and_then}
 use Rattle.model.specs.Orders.{fans_entry, dose_entry, no_dose, fans_in, doses_in, no_clash, order_with, order_in, order_of, read_order}
 use Rattle.model.specs.Orders as orders
 use Rattle.order.specs.declared.Order.{Order}
-use Rattle.records.specs.declared.order_records.Fans.{Fans}
 use Rattle.records.specs.declared.order_records.Dose.{Dose}
 use Rattle.order.specs.declared.Gathered.{Gathered}
 use Rattle.order.specs.declared.Walked.{Walked}

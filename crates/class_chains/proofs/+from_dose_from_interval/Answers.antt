@@ -1,10 +1,10 @@
 -- The two searches meet their contracts together: the number of unseen stations falls at each call. In each loop nothing was pushed so far,
 -- and what was seen since the start is exhausted.
-use Rattle.std.proofs.Common.{◌≡◌, ◌+◌, ◌*◌, ◌<◌, length, arith, rules}
-use Rattle.model.specs.Limits.{most_doses, most_intervals, most_marks}
+use Rattle.std.proofs.Common.{◌≡◌, ◌+◌, length, arith, rules}
+use Rattle.model.specs.Limits.{most_doses, most_marks}
 use Rattle.class_chains.proofs.Laws.{falls_to, sized_now, bounded_same}
 use Rattle.class_chains.proofs.Searches.{New, tried_none, share_same, tried_up_to, tried_next, tried_in_vain}
-use Rattle.class_chains.proofs.Searches.{dose_stops, dose_fails, dose_fits_lem, dose_pushes, interval_stops, interval_spares, interval_fails, interval_has, interval_pushes}
+use Rattle.class_chains.proofs.Searches.{dose_fails, dose_fits_lem, dose_pushes, interval_spares, interval_fails, interval_has, interval_pushes}
 use Rattle.class_chains.proofs.+from_dose_from_interval.Goals as goal
 
 -- ---- from a dose
@@ -30,8 +30,7 @@ pub from_dose-from_interval-p-requires : goal.from_dose-from_interval-p-requires
 from_dose-from_interval-p-requires t c =
     let tried = c.loop-j.invariant in
     let new : New c.args.rooms.now c.args.holds.now c.args.seen c.args.shares.now c.args.d =
-        record { bounded = c.requires.1; inside = search rules; unseen = c.if-seen-d.false } in
-    (
+    record { bounded = c.requires.1; inside = search rules; unseen = c.if-seen-d.false } in (
       falls_to _ _ t new.inside new.unseen c.decreases tried.kept,
       (sized_now c.requires.0 tried.shares, bounded_same new.bounded tried.same, c.loop-j-test.true, c.requires.3),
     )
@@ -76,7 +75,7 @@ pub from_interval-returns-then-least-spare : goal.from_interval-returns-then-lea
 from_interval-returns-then-least-spare t c =
     let A = c.args in
     let new : New A.rooms.now A.holds.now A.seen A.shares.now (most_doses + A.j) =
-        record { bounded = c.requires.1; inside = search rules; unseen = c.if-seen-j.false } in
+    record { bounded = c.requires.1; inside = search rules; unseen = c.if-seen-j.false } in
     interval_spares _ c.requires.2 new c.interval_total.ensures c.less-spare.ensures c.smaller.ensures (omega (arith, c.smaller.ensures))
 
 pub from_interval-loop-d-init : goal.from_interval-loop-d-init
@@ -97,8 +96,7 @@ pub from_interval-from_dose-p-requires : goal.from_interval-from_dose-p-requires
 from_interval-from_dose-p-requires t c =
     let tried = c.loop-d.invariant in
     let new : New c.args.rooms.now c.args.holds.now c.args.seen c.args.shares.now (most_doses + c.args.j) =
-        record { bounded = c.requires.1; inside = search rules; unseen = c.if-seen-j.false } in
-    (
+    record { bounded = c.requires.1; inside = search rules; unseen = c.if-seen-j.false } in (
       falls_to _ _ t new.inside new.unseen c.decreases tried.kept,
       (sized_now c.requires.0 tried.shares, bounded_same new.bounded tried.same, c.loop-d-test.true, c.requires.3),
     )
@@ -107,7 +105,7 @@ pub from_interval-overflow_sub-shares : goal.from_interval-overflow_sub-shares
 from_interval-overflow_sub-shares t c =
     let A = c.args in
     let new : New A.rooms.now A.holds.now A.seen A.shares.now (most_doses + A.j) =
-        record { bounded = c.requires.1; inside = search rules; unseen = c.if-seen-j.false } in
+    record { bounded = c.requires.1; inside = search rules; unseen = c.if-seen-j.false } in
     omega (arith, interval_has A.want c.requires.2 new c.loop-d.invariant c.loop-d-test.true c.smaller-w.ensures c.from_dose-p.ensures)
 
 -- the dose found something elsewhere, and gives it back here
@@ -115,7 +113,7 @@ pub from_interval-returns-then-a-gt0 : goal.from_interval-returns-then-a-gt0
 from_interval-returns-then-a-gt0 t c =
     let A = c.args in
     let new : New A.rooms.now A.holds.now A.seen A.shares.now (most_doses + A.j) =
-        record { bounded = c.requires.1; inside = search rules; unseen = c.if-seen-j.false } in
+    record { bounded = c.requires.1; inside = search rules; unseen = c.if-seen-j.false } in
     interval_pushes A.want c.requires.2 new c.loop-d.invariant c.loop-d-test.true c.smaller-w.ensures c.from_dose-p.ensures c.if-a-gt0.true (omega arith)
 
 -- the dose found nothing elsewhere
@@ -130,5 +128,5 @@ pub from_interval-returns : goal.from_interval-returns
 from_interval-returns t c =
     let A = c.args in
     let new : New A.rooms.now A.holds.now A.seen A.shares.now (most_doses + A.j) =
-        record { bounded = c.requires.1; inside = search rules; unseen = c.if-seen-j.false } in
+    record { bounded = c.requires.1; inside = search rules; unseen = c.if-seen-j.false } in
     interval_fails _ c.requires.2 new c.interval_total.ensures c.less-spare.ensures c.if-least-spare.false c.loop-d.invariant c.loop-d-test.false

@@ -1,10 +1,7 @@
 -- `dose_total` meets its contract: the sum so far is that of the intervals passed.
-use Prim.Native.Nat.{◌-◌}
 use native.Mathlib.Omega.{arith}
-use borrow.Author.Rules.{rules}
-use Rattle.model.specs.Limits.{most_intervals}
-use Rattle.class_chains.specs.Chains.{cell, got}
-use Rattle.class_chains.proofs.Laws.{Added, added_none, added_next, added_most, added_all}
+use Rattle.class_chains.specs.Chains.{got}
+use Rattle.class_chains.proofs.Laws.{added_none, added_next, added_most, added_all}
 use Rattle.class_chains.proofs.dose_total.Goals as goal
 
 pub loop-j-init : goal.loop-j-init

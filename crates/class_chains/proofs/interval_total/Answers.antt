@@ -1,10 +1,7 @@
 -- `interval_total` meets its contract: the sum so far is that of the doses passed.
-use Prim.Native.Nat.{◌-◌}
 use native.Mathlib.Omega.{arith}
-use borrow.Author.Rules.{rules}
-use Rattle.model.specs.Limits.{most_doses}
-use Rattle.class_chains.specs.Chains.{cell, given}
-use Rattle.class_chains.proofs.Laws.{Added, added_none, added_next, added_most, added_all}
+use Rattle.class_chains.specs.Chains.{given}
+use Rattle.class_chains.proofs.Laws.{added_none, added_next, added_most, added_all}
 use Rattle.class_chains.proofs.interval_total.Goals as goal
 
 pub loop-d-init : goal.loop-d-init

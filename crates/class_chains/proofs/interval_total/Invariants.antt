@@ -1,9 +1,7 @@
 use Prim.Native.Nat.{◌-◌}
-use native.Mathlib.Omega.{arith}
-use borrow.Author.Rules.{rules}
 use Rattle.model.specs.Limits.{most_doses}
-use Rattle.class_chains.specs.Chains.{cell, given}
-use Rattle.class_chains.proofs.Laws.{Added, added_none, added_next, added_most, added_all}
+use Rattle.class_chains.specs.Chains.{cell}
+use Rattle.class_chains.proofs.Laws.{Added}
 use Rattle.class_chains.proofs.interval_total.Given as goal
 
 abbrev pub invariant-loop-d : goal.invariant-loop-d

@@ -1,9 +1,5 @@
 -- `next_way` meets its contract: every interval passed is no way on.
-use Prim.Native.Nat.{ℕ, ◌+◌, ◌≤◌, ◌<◌, ◌-◌}
 use native.Mathlib.Omega.{arith}
-use borrow.Author.Rules.{rules}
-use Rattle.model.specs.Limits.{most_intervals}
-use Rattle.class_chains.specs.Chains.{cell}
 use Rattle.steps.proofs.Tests.{alike}
 use Rattle.class_chains.proofs.next_way.Goals as goal
 

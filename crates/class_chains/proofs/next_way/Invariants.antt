@@ -1,9 +1,6 @@
 use Prim.Native.Nat.{ℕ, ◌+◌, ◌≤◌, ◌<◌, ◌-◌}
-use native.Mathlib.Omega.{arith}
-use borrow.Author.Rules.{rules}
 use Rattle.model.specs.Limits.{most_intervals}
 use Rattle.class_chains.specs.Chains.{cell}
-use Rattle.steps.proofs.Tests.{alike}
 use Rattle.class_chains.proofs.next_way.Given as goal
 
 abbrev pub invariant-loop-j : goal.invariant-loop-j

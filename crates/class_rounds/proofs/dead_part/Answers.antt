@@ -1,13 +1,10 @@
 -- `dead_part` meets its contract: every dose passed is marked where it is in both.
-use Prim.Native.Nat.{◌-◌}
 use mathlib.Core.Path.{refl}
-use mathlib.Core.Bool.{false, ◌&&◌}
-use lib.ListN.{get_or}
 use native.Mathlib.Omega.{arith}
 use borrow.Author.Rules.{rules}
 use Rattle.model.specs.Limits.{most_doses}
 use Rattle.class_rounds.proofs.Laws.{marks_both}
-use Rattle.steps.proofs.Loops.{DoneTo, done_none, done_next, done_all}
+use Rattle.steps.proofs.Loops.{done_none, done_next, done_all}
 use Rattle.class_rounds.proofs.dead_part.Goals as goal
 
 pub loop-k-init : goal.loop-k-init

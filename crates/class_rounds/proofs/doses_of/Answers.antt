@@ -1,13 +1,7 @@
 -- `doses_of` meets its contract: every mark passed is kept where it is a dose's.
-use Prim.Native.Nat.{◌-◌}
 use mathlib.Core.Path.{refl}
-use mathlib.Core.Bool.{false, ◌&&◌}
-use lib.Dec.{ltb}
-use lib.ListN.{get_or}
 use native.Mathlib.Omega.{arith}
-use borrow.Author.Rules.{rules}
-use Rattle.model.specs.Limits.{most_doses}
-use Rattle.steps.proofs.Loops.{DoneTo, done_none, done_next, done_all}
+use Rattle.steps.proofs.Loops.{done_none, done_next, done_all}
 use Rattle.class_rounds.proofs.doses_of.Goals as goal
 
 pub loop-k-init : goal.loop-k-init

@@ -1,12 +1,8 @@
 -- `holds_of` meets its contract: every interval passed has its reserved time.
-use Prim.Native.Nat.{◌-◌, ◌*◌}
 use mathlib.Core.Path.{refl}
-use lib.ListN.{get_or}
 use native.Mathlib.Omega.{arith}
-use borrow.Author.Rules.{rules}
 use native.Mathlib.Nat.{mul-le-mul}
-use Rattle.model.specs.Limits.{most_intervals}
-use Rattle.steps.proofs.Loops.{DoneTo, done_none, done_next, done_all}
+use Rattle.steps.proofs.Loops.{done_none, done_next, done_all}
 use Rattle.class_rounds.proofs.holds_of.Goals as goal
 
 pub loop-j-init : goal.loop-j-init

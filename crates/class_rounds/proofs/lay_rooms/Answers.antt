@@ -1,11 +1,5 @@
 -- `lay_rooms` meets its contract: every row passed is laid.
-use Prim.Native.Nat.{◌≤◌, ◌-◌, ◌*◌}
-use mathlib.Core.Path.{◌≡◌}
-use lib.ListN.{length}
 use native.Mathlib.Omega.{arith}
-use borrow.Author.Rules.{rules}
-use Rattle.model.specs.Limits.{cells, most_doses, most_intervals}
-use Rattle.class_rounds.specs.Rounds.{RoomsTo}
 use Rattle.class_rounds.proofs.lay_rooms.Goals as goal
 
 pub loop-k-init : goal.loop-k-init

@@ -1,8 +1,6 @@
 use Prim.Native.Nat.{◌≤◌, ◌-◌, ◌*◌}
 use mathlib.Core.Path.{◌≡◌}
 use lib.ListN.{length}
-use native.Mathlib.Omega.{arith}
-use borrow.Author.Rules.{rules}
 use Rattle.model.specs.Limits.{cells, most_doses, most_intervals}
 use Rattle.class_rounds.specs.Rounds.{RoomsTo}
 use Rattle.class_rounds.proofs.lay_rooms.Given as goal

@@ -1,12 +1,8 @@
 use Prim.Native.Nat.{◌≤◌, ◌-◌, ◌+◌, ◌*◌}
 use mathlib.Core.Path.{◌≡◌}
-use lib.ListN.{length, length-set}
-use native.Mathlib.Nat.{mul-le-mul}
-use native.Mathlib.Omega.{arith}
-use borrow.Author.Rules.{rules}
+use lib.ListN.{length}
 use Rattle.model.specs.Limits.{cells, most_intervals}
 use Rattle.class_rounds.specs.Rounds.{RoomsTo}
-use Rattle.class_rounds.proofs.Laws.{rooms_next}
 use Rattle.class_rounds.proofs.lay_row.Given as goal
 
 abbrev pub invariant-loop-j : goal.invariant-loop-j

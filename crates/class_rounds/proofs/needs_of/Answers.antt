@@ -1,14 +1,12 @@
 -- `needs_of` meets its contract: every dose passed has its need.
-use Prim.Native.Nat.{ℕ, ◌≤◌, ◌-◌, ◌*◌}
+use Prim.Native.Nat.{ℕ, ◌≤◌, ◌*◌}
 use mathlib.Core.Path.{refl, ap, ◌∙◌}
 use mathlib.Core.Bool.{false}
 use lib.ListN.{get_or}
 use native.Mathlib.Omega.{arith}
-use borrow.Author.Rules.{rules}
-use Rattle.model.specs.Limits.{most_doses}
 use Rattle.model.specs.Sets.{on}
 use native.Mathlib.Nat.{mul-le-mul}
-use Rattle.steps.proofs.Loops.{DoneTo, done_none, done_next, done_all}
+use Rattle.steps.proofs.Loops.{done_none, done_next, done_all}
 use Rattle.class_rounds.proofs.needs_of.Goals as goal
 
 pub loop-k-init : goal.loop-k-init

@@ -1,13 +1,9 @@
-use Prim.Native.Nat.{ℕ, ◌≤◌, ◌-◌, ◌*◌}
-use mathlib.Core.Path.{refl, ap, ◌∙◌}
+use Prim.Native.Nat.{◌-◌, ◌*◌}
 use mathlib.Core.Bool.{false}
 use lib.ListN.{get_or}
-use native.Mathlib.Omega.{arith}
-use borrow.Author.Rules.{rules}
 use Rattle.model.specs.Limits.{most_doses}
 use Rattle.model.specs.Sets.{on}
-use native.Mathlib.Nat.{mul-le-mul}
-use Rattle.steps.proofs.Loops.{DoneTo, done_none, done_next, done_all}
+use Rattle.steps.proofs.Loops.{DoneTo}
 use Rattle.class_rounds.proofs.needs_of.Given as goal
 
 abbrev pub invariant-loop-k : goal.invariant-loop-k

@@ -1,13 +1,8 @@
 -- `next_class` meets its contract: of the remaining doses' own marks, the set stays a candidate from round to round, and its weight falls.
-use Prim.Native.Nat.{ℕ}
-use mathlib.Core.Path.{◌≡◌, refl}
-use lib.ListN.{length, get_or}
+use mathlib.Core.Path.{refl}
 use borrow.Author.Rules.{rules}
-use Rattle.model.specs.Limits.{cells}
-use Rattle.model.specs.Sets.{weight}
 use Rattle.model.proofs.Same.{agree_refl, next_same}
-use Rattle.measure.specs.Arrays.{set_of, row_of, setting_from}
-use Rattle.class_rounds.specs.Rounds.{Candidate, NonePast}
+use Rattle.measure.specs.Arrays.{set_of, setting_from}
 use Rattle.class_rounds.proofs.Laws.{none_past, own_alike, own_some, own_none_past}
 use Rattle.class_rounds.proofs.OneRound.{first_candidate}
 use Rattle.class_rounds.proofs.next_class.Goals as goal

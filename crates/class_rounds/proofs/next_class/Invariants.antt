@@ -1,14 +1,9 @@
-use Prim.Native.Nat.{ℕ}
-use mathlib.Core.Path.{◌≡◌, refl}
+use mathlib.Core.Path.{◌≡◌}
 use lib.ListN.{length, get_or}
-use borrow.Author.Rules.{rules}
 use Rattle.model.specs.Limits.{cells}
 use Rattle.model.specs.Sets.{weight}
-use Rattle.model.proofs.Same.{agree_refl, next_same}
 use Rattle.measure.specs.Arrays.{set_of, row_of, setting_from}
 use Rattle.class_rounds.specs.Rounds.{Candidate, NonePast}
-use Rattle.class_rounds.proofs.Laws.{none_past, own_alike, own_some, own_none_past}
-use Rattle.class_rounds.proofs.OneRound.{first_candidate}
 use Rattle.class_rounds.proofs.next_class.Given as goal
 
 abbrev pub invariant-loop-free : goal.invariant-loop-free

@@ -1,10 +1,7 @@
 -- `clear` meets its contract: every place passed is 0.
-use Prim.Native.Nat.{ℕ, ◌<◌, ◌≤◌, ◌-◌}
-use mathlib.Core.Path.{◌≡◌, refl}
-use lib.ListN.{length, get_or, length-set}
+use mathlib.Core.Path.{refl}
+use lib.ListN.{length-set}
 use native.Mathlib.Omega.{arith}
-use borrow.Author.Rules.{rules}
-use Rattle.model.specs.Limits.{cells}
 use Rattle.steps.proofs.Loops.{stored}
 use Rattle.class_shares.proofs.clear.Goals as goal
 

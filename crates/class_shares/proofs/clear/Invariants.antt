@@ -1,10 +1,7 @@
 use Prim.Native.Nat.{ℕ, ◌<◌, ◌≤◌, ◌-◌}
-use mathlib.Core.Path.{◌≡◌, refl}
-use lib.ListN.{length, get_or, length-set}
-use native.Mathlib.Omega.{arith}
-use borrow.Author.Rules.{rules}
+use mathlib.Core.Path.{◌≡◌}
+use lib.ListN.{length, get_or}
 use Rattle.model.specs.Limits.{cells}
-use Rattle.steps.proofs.Loops.{stored}
 use Rattle.class_shares.proofs.clear.Given as goal
 
 abbrev pub invariant-loop-i : goal.invariant-loop-i

@@ -1,12 +1,7 @@
 -- `find_shares` meets its contract: no shares are within all bounds, and stay so.
-use Prim.Native.Nat.{◌≤◌, ◌-◌}
-use mathlib.Core.Path.{◌≡◌}
-use lib.ListN.{length}
 use native.Mathlib.Omega.{arith}
 use borrow.Author.Rules.{rules}
-use Rattle.model.specs.Limits.{cells, most_doses}
 use Rattle.class_chains.proofs.Laws.{sized_now}
-use Rattle.class_shares.specs.Share.{Within}
 use Rattle.class_shares.proofs.Laws.{within_none}
 use Rattle.class_shares.proofs.find_shares.Goals as goal
 

@@ -1,12 +1,8 @@
 use Prim.Native.Nat.{◌≤◌, ◌-◌}
 use mathlib.Core.Path.{◌≡◌}
 use lib.ListN.{length}
-use native.Mathlib.Omega.{arith}
-use borrow.Author.Rules.{rules}
 use Rattle.model.specs.Limits.{cells, most_doses}
-use Rattle.class_chains.proofs.Laws.{sized_now}
 use Rattle.class_shares.specs.Share.{Within}
-use Rattle.class_shares.proofs.Laws.{within_none}
 use Rattle.class_shares.proofs.find_shares.Given as goal
 
 abbrev pub invariant-loop-i : goal.invariant-loop-i

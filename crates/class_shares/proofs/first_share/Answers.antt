@@ -3,7 +3,6 @@ use Prim.Native.Nat.{◌+◌, ◌*◌}
 use native.Mathlib.Omega.{arith}
 use Rattle.model.specs.Limits.{most_intervals}
 use Rattle.class_shares.proofs.Laws.{took_none, took_more}
-use borrow.Author.Rules.{rules}
 use Rattle.class_shares.proofs.first_share.Goals as goal
 
 pub returns-then-rooms-at-eq0 : goal.returns-then-rooms-at-eq0

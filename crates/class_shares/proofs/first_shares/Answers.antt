@@ -1,10 +1,8 @@
 -- `first_shares` meets its contract: the shares stay within their bounds, and `miss` is what the dose misses.
-use Prim.Native.Nat.{◌-◌}
 use native.Mathlib.Omega.{arith}
 use borrow.Author.Rules.{rules}
-use Rattle.model.specs.Limits.{most_intervals}
 use Rattle.class_chains.proofs.Laws.{sized_now}
-use Rattle.class_shares.proofs.Laws.{Taking, taking_next}
+use Rattle.class_shares.proofs.Laws.{taking_next}
 use Rattle.class_shares.proofs.first_shares.Goals as goal
 
 pub returns-then-d-ge-MOST_DOSES : goal.returns-then-d-ge-MOST_DOSES

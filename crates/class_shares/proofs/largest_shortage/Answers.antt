@@ -1,7 +1,4 @@
 -- `largest_shortage` meets its contract.
-use Prim.Native.Nat.{◌≤◌, ◌-◌}
-use borrow.Author.Rules.{rules}
-use Rattle.model.specs.Limits.{most_doses}
 use Rattle.class_shares.proofs.largest_shortage.Goals as goal
 
 pub dose_total-requires : goal.dose_total-requires

@@ -1,5 +1,4 @@
 use Prim.Native.Nat.{◌≤◌, ◌-◌}
-use borrow.Author.Rules.{rules}
 use Rattle.model.specs.Limits.{most_doses}
 use Rattle.class_shares.proofs.largest_shortage.Given as goal
 

@@ -1,12 +1,7 @@
 -- `needs_met` meets its contract: every dose passed has its need.
-use Prim.Native.Nat.{ℕ, ◌<◌, ◌≤◌, ◌-◌}
-use mathlib.Core.Path.{◌≡◌, refl}
-use lib.ListN.{get_or}
+use mathlib.Core.Path.{refl}
 use native.Mathlib.Omega.{arith}
-use borrow.Author.Rules.{rules}
 use borrow.Author.Count.{below_more}
-use Rattle.model.specs.Limits.{most_doses}
-use Rattle.class_chains.specs.Chains.{got}
 use Rattle.steps.proofs.Tests.{not_both}
 use Rattle.class_shares.proofs.needs_met.Goals as goal
 

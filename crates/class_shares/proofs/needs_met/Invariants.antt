@@ -1,12 +1,8 @@
 use Prim.Native.Nat.{ℕ, ◌<◌, ◌≤◌, ◌-◌}
-use mathlib.Core.Path.{◌≡◌, refl}
+use mathlib.Core.Path.{◌≡◌}
 use lib.ListN.{get_or}
-use native.Mathlib.Omega.{arith}
-use borrow.Author.Rules.{rules}
-use borrow.Author.Count.{below_more}
 use Rattle.model.specs.Limits.{most_doses}
 use Rattle.class_chains.specs.Chains.{got}
-use Rattle.steps.proofs.Tests.{not_both}
 use Rattle.class_shares.proofs.needs_met.Given as goal
 
 abbrev pub invariant-loop-k : goal.invariant-loop-k

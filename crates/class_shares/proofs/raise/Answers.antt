@@ -3,7 +3,6 @@ use mathlib.Core.Path.{◌≡◌}
 use native.Mathlib.Omega.{arith}
 use borrow.Author.Rules.{rules}
 use Rattle.class_chains.proofs.Laws.{sized_now}
-use Rattle.class_shares.proofs.Laws.{Passed}
 use Rattle.class_shares.proofs.raise.Goals as goal
 
 pub raise_pass-dead-requires : goal.raise_pass-dead-requires

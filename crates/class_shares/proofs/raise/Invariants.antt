@@ -1,7 +1,3 @@
-use mathlib.Core.Path.{◌≡◌}
-use native.Mathlib.Omega.{arith}
-use borrow.Author.Rules.{rules}
-use Rattle.class_chains.proofs.Laws.{sized_now}
 use Rattle.class_shares.proofs.Laws.{Passed}
 use Rattle.class_shares.proofs.raise.Given as goal
 

@@ -1,10 +1,8 @@
 -- `raise_dose` meets its contract: what the dose is short of falls.
-use Prim.Native.Nat.{◌-◌}
 use native.Mathlib.Omega.{arith}
 use borrow.Author.Rules.{rules}
-use Rattle.class_chains.specs.Chains.{got}
 use Rattle.class_chains.proofs.Laws.{sized_now}
-use Rattle.class_shares.proofs.Laws.{DoseRising, rising_none, rising_met, rising_more, rising_less, rising_in_vain}
+use Rattle.class_shares.proofs.Laws.{rising_none, rising_met, rising_more, rising_less, rising_in_vain}
 use Rattle.class_shares.proofs.raise_dose.Goals as goal
 
 pub returns-then-need-least : goal.returns-then-need-least

@@ -1,9 +1,6 @@
 use Prim.Native.Nat.{◌-◌}
-use native.Mathlib.Omega.{arith}
-use borrow.Author.Rules.{rules}
 use Rattle.class_chains.specs.Chains.{got}
-use Rattle.class_chains.proofs.Laws.{sized_now}
-use Rattle.class_shares.proofs.Laws.{DoseRising, rising_none, rising_met, rising_more, rising_less, rising_in_vain}
+use Rattle.class_shares.proofs.Laws.{DoseRising}
 use Rattle.class_shares.proofs.raise_dose.Given as goal
 
 abbrev pub invariant-loop-dead : goal.invariant-loop-dead

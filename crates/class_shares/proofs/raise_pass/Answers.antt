@@ -1,12 +1,9 @@
 -- `raise_pass` meets its contract: every dose passed is met or dead.
-use Prim.Native.Nat.{◌≤◌, ◌-◌}
 use mathlib.Core.Path.{◌≡◌}
-use lib.ListN.{length}
 use native.Mathlib.Omega.{arith}
 use borrow.Author.Rules.{rules}
-use Rattle.model.specs.Limits.{cells, most_doses, most_marks}
+use Rattle.model.specs.Limits.{most_doses, most_marks}
 use Rattle.class_chains.proofs.Laws.{sized_now}
-use Rattle.class_shares.specs.Share.{Raised}
 use Rattle.class_shares.proofs.Laws.{raised_none, raised_step, all_false}
 use Rattle.class_shares.proofs.raise_pass.Goals as goal
 

@@ -1,12 +1,8 @@
 use Prim.Native.Nat.{◌≤◌, ◌-◌}
 use mathlib.Core.Path.{◌≡◌}
 use lib.ListN.{length}
-use native.Mathlib.Omega.{arith}
-use borrow.Author.Rules.{rules}
-use Rattle.model.specs.Limits.{cells, most_doses, most_marks}
-use Rattle.class_chains.proofs.Laws.{sized_now}
+use Rattle.model.specs.Limits.{cells, most_doses}
 use Rattle.class_shares.specs.Share.{Raised}
-use Rattle.class_shares.proofs.Laws.{raised_none, raised_step, all_false}
 use Rattle.class_shares.proofs.raise_pass.Given as goal
 
 abbrev pub invariant-loop-d : goal.invariant-loop-d

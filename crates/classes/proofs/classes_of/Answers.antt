@@ -1,6 +1,5 @@
 -- `classes_of` meets its contract: the arrays stand for the order (OfOrder).
 use mathlib.Core.Path.{refl}
-use borrow.Author.Rules.{rules}
 use Rattle.order.specs.Held.{as_order}
 use Rattle.order.proofs.Fields.{fans_is, few_doses}
 use Rattle.measure.proofs.OfOrder.{agree, arrays}

@@ -1,13 +1,12 @@
 -- `keep_shares` meets its contract: every place passed has its share, the others are as before.
-use Prim.Native.Nat.{ℕ, ◌≤◌, ◌-◌, ◌/◌}
-use mathlib.Core.Path.{◌≡◌, refl, ap, ◌∙◌}
+use Prim.Native.Nat.{ℕ, ◌/◌}
+use mathlib.Core.Path.{refl, ap, ◌∙◌}
 use mathlib.Core.Bool.{false}
 use lib.ListN.{get_or}
 use native.Mathlib.Omega.{arith}
-use borrow.Author.Rules.{rules}
-use Rattle.model.specs.Limits.{cells, most_intervals}
+use Rattle.model.specs.Limits.{most_intervals}
 use Rattle.classes.specs.Phase.{choose}
-use Rattle.steps.proofs.Loops.{DoneTo, done_none, done_next, done_all, unreached}
+use Rattle.steps.proofs.Loops.{done_none, done_next, done_all, unreached}
 use Rattle.classes.proofs.keep_shares.Goals as goal
 
 pub loop-i-init : goal.loop-i-init

@@ -1,12 +1,10 @@
 use Prim.Native.Nat.{ℕ, ◌≤◌, ◌-◌, ◌/◌}
-use mathlib.Core.Path.{◌≡◌, refl, ap, ◌∙◌}
+use mathlib.Core.Path.{◌≡◌}
 use mathlib.Core.Bool.{false}
 use lib.ListN.{get_or}
-use native.Mathlib.Omega.{arith}
-use borrow.Author.Rules.{rules}
 use Rattle.model.specs.Limits.{cells, most_intervals}
 use Rattle.classes.specs.Phase.{choose}
-use Rattle.steps.proofs.Loops.{DoneTo, done_none, done_next, done_all, unreached}
+use Rattle.steps.proofs.Loops.{DoneTo}
 use Rattle.classes.proofs.keep_shares.Given as goal
 
 abbrev pub invariant-loop-i : goal.invariant-loop-i

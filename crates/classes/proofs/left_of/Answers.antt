@@ -1,12 +1,7 @@
 -- `left_of` meets its contract: every dose passed remains where it is no member.
-use Prim.Native.Nat.{◌-◌}
 use mathlib.Core.Path.{refl}
-use mathlib.Core.Bool.{false, not, ◌&&◌}
-use lib.ListN.{get_or}
 use native.Mathlib.Omega.{arith}
-use borrow.Author.Rules.{rules}
-use Rattle.model.specs.Limits.{most_doses}
-use Rattle.steps.proofs.Loops.{DoneTo, done_none, done_next, done_all}
+use Rattle.steps.proofs.Loops.{done_none, done_next, done_all}
 use Rattle.classes.proofs.left_of.Goals as goal
 
 pub loop-k-init : goal.loop-k-init

@@ -1,13 +1,7 @@
 -- `number_members` meets its contract: every dose passed has its number.
-use Prim.Native.Nat.{◌-◌}
 use mathlib.Core.Path.{refl}
-use mathlib.Core.Bool.{false}
-use lib.ListN.{get_or}
 use native.Mathlib.Omega.{arith}
-use borrow.Author.Rules.{rules}
-use Rattle.model.specs.Limits.{most_doses}
-use Rattle.classes.specs.Phase.{choose}
-use Rattle.steps.proofs.Loops.{DoneTo, done_none, done_next, done_all}
+use Rattle.steps.proofs.Loops.{done_none, done_next, done_all}
 use Rattle.classes.proofs.number_members.Goals as goal
 
 pub loop-k-init : goal.loop-k-init

@@ -1,7 +1,6 @@
 -- `phase` meets its contract: one class more is the tally so far (OnePhase).
 use mathlib.Core.Path.{refl}
 use native.Mathlib.Omega.{arith}
-use borrow.Author.Rules.{rules}
 use Rattle.classes.proofs.OnePhase.{some_remain, some_size, so_far_next}
 use Rattle.measure.specs.Arrays.{set_of}
 use Rattle.classes.proofs.phase.Goals as goal

@@ -1,12 +1,6 @@
 -- `phases` meets its contract: the tally so far is the invariant, and the doses not yet classed fall.
-use Prim.Native.Nat.{◌≤◌, ◌-◌}
-use mathlib.Core.Path.{◌≡◌}
-use lib.ListN.{length}
 use native.Mathlib.Omega.{arith}
 use borrow.Author.Rules.{rules}
-use Rattle.model.specs.Limits.{cells}
-use Rattle.measure.specs.Arrays.{setting_from}
-use Rattle.classes.specs.Phase.{SoFar}
 use Rattle.classes.proofs.OnePhase.{so_far_start}
 use Rattle.classes.proofs.phases.Goals as goal
 

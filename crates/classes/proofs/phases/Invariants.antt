@@ -1,12 +1,9 @@
 use Prim.Native.Nat.{◌≤◌, ◌-◌}
 use mathlib.Core.Path.{◌≡◌}
 use lib.ListN.{length}
-use native.Mathlib.Omega.{arith}
-use borrow.Author.Rules.{rules}
 use Rattle.model.specs.Limits.{cells}
 use Rattle.measure.specs.Arrays.{setting_from}
 use Rattle.classes.specs.Phase.{SoFar}
-use Rattle.classes.proofs.OnePhase.{so_far_start}
 use Rattle.classes.proofs.phases.Given as goal
 
 abbrev pub invariant-loop-tally : goal.invariant-loop-tally

@@ -2,7 +2,6 @@
 use Prim.Native.Nat.{ℕ, ◌<◌}
 use mathlib.Core.Path.{ap, ◌∙◌}
 use native.Mathlib.Omega.{arith}
-use borrow.Author.Rules.{rules}
 use Rattle.model.specs.Classes.{set_number}
 use Rattle.order.specs.Held.{as_order}
 use Rattle.measure.specs.Arrays.{sets_of}

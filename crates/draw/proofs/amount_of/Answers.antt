@@ -3,7 +3,6 @@ use Rattle.draw.proofs.Points.{has_time, amount_most, amount_fits}
 use Rattle.model.specs.Line.{drawn}
 use mathlib.Core.Path.{refl, ◌∙◌}
 use native.Mathlib.Omega.{arith}
-use borrow.Author.Rules.{rules}
 use Rattle.draw.proofs.amount_of.Goals as goal
 
 pub nonzero_div-result : goal.nonzero_div-result

@@ -2,7 +2,6 @@
 use native.Mathlib.Omega.{arith}
 use Rattle.records.specs.Held.{as_slot}
 use Rattle.draw.proofs.Seconds.{earlier_alone, earlier_behind, earlier_here}
-use borrow.Author.Rules.{rules}
 use Rattle.draw.proofs.earlier.Goals as goal
 
 pub returns-in_default : goal.returns-in_default

@@ -1,11 +1,7 @@
 -- `fed_at` meets its contract: from the last record back, what is kept is that of the earliest slot among the records passed (Walks).
-use Prim.Native.Nat.{◌-◌, ◌/◌, ◌≤◌}
-use mathlib.Core.Path.{◌≡◌, ◌∙◌}
+use mathlib.Core.Path.{◌∙◌}
 use native.Mathlib.Omega.{arith}
-use lib.ListN.{length}
-use Rattle.model.specs.Records.{record_size}
-use Rattle.draw.proofs.Walks.{fed_left, fed_none, fed_back, fed_all}
-use borrow.Author.Rules.{rules}
+use Rattle.draw.proofs.Walks.{fed_none, fed_back, fed_all}
 use Rattle.draw.proofs.fed_at.Goals as goal
 
 pub loop-k-init : goal.loop-k-init

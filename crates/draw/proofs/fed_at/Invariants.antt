@@ -1,10 +1,8 @@
 use Prim.Native.Nat.{◌-◌, ◌/◌, ◌≤◌}
-use mathlib.Core.Path.{◌≡◌, ◌∙◌}
-use native.Mathlib.Omega.{arith}
+use mathlib.Core.Path.{◌≡◌}
 use lib.ListN.{length}
 use Rattle.model.specs.Records.{record_size}
-use Rattle.draw.proofs.Walks.{fed_left, fed_none, fed_back, fed_all}
-use borrow.Author.Rules.{rules}
+use Rattle.draw.proofs.Walks.{fed_left}
 use Rattle.draw.proofs.fed_at.Given as goal
 
 abbrev pub invariant-loop-k : goal.invariant-loop-k

@@ -4,7 +4,6 @@ use Rattle.model.specs.Plans.{Slot}
 use Rattle.model.specs.Line.{feeds}
 use Rattle.order.proofs.Cases.{was_off, was_on}
 use Rattle.draw.specs.Drawing.{earlier_kept, fed_from}
-use borrow.Author.Rules.{rules}
 use Rattle.draw.proofs.fed_from.Goals as goal
 
 pub returns-then-not-own_slot : goal.returns-then-not-own_slot

@@ -2,7 +2,6 @@
 use mathlib.Core.Path.{◌∙◌}
 use Rattle.records.specs.Held.{as_slot}
 use Rattle.draw.proofs.Seconds.{feeds_by}
-use borrow.Author.Rules.{rules}
 use Rattle.draw.proofs.feeds.Goals as goal
 
 pub returns : goal.returns

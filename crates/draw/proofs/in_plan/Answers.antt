@@ -1,6 +1,5 @@
 -- `in_plan` meets its contract: 11 for no such dose, 12 for a tick over 604,800, else the point by the order read again (Drawings).
 use Rattle.draw.proofs.Drawings.{drawable, draws_no_dose, draws_too_late, draws_point}
-use borrow.Author.Rules.{rules}
 use Rattle.draw.proofs.in_plan.Goals as goal
 
 pub returns-then-n-dose : goal.returns-then-n-dose

@@ -1,6 +1,5 @@
 -- `move_on` meets its contract: the answer is the drawing at the next tick, and the tick moves on only with answer 0 (Drawings).
 use Rattle.draw.proofs.Drawings.{moves_by}
-use borrow.Author.Rules.{rules}
 use Rattle.draw.proofs.move_on.Goals as goal
 
 pub returns-then-d-ne0 : goal.returns-then-d-ne0

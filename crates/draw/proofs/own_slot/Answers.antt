@@ -5,7 +5,6 @@ use mathlib.Core.Path.{sym, ap, ◌∙◌}
 use Rattle.model.specs.Plans.{Slot}
 use Rattle.steps.proofs.Tests.{and_false}
 use Rattle.draw.specs.Drawing.{own_slot}
-use borrow.Author.Rules.{rules}
 use Rattle.draw.proofs.own_slot.Goals as goal
 
 pub returns-then-dose-s : goal.returns-then-dose-s

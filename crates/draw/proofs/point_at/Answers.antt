@@ -3,7 +3,6 @@ use Rattle.draw.proofs.Drawings.{draws_refused}
 use Rattle.draw.proofs.Answers.{judged_sound}
 use Rattle.model.specs.Answers.{Drawn}
 use mathlib.Core.Path.{sym, ap, ◌∙◌}
-use borrow.Author.Rules.{rules}
 use Rattle.draw.proofs.point_at.Goals as goal
 
 pub returns-then-d-ne0 : goal.returns-then-d-ne0

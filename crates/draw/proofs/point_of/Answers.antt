@@ -1,5 +1,4 @@
 -- `point_of` meets its contract: the drawn amount, worked out with the dose's P, and the state.
-use borrow.Author.Rules.{rules}
 use Rattle.draw.proofs.point_of.Goals as goal
 
 pub returns : goal.returns

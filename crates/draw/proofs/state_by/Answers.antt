@@ -1,7 +1,6 @@
 -- `state_by` meets its contract: Idle where nothing is kept, else Dosing by the fan that is.
 use Rattle.draw.specs.Drawing.{as_state}
 use Rattle.draw.proofs.Seconds.{state_unfed, state_fed}
-use borrow.Author.Rules.{rules}
 use Rattle.draw.proofs.state_by.Goals as goal
 
 pub returns-in-Unfed : goal.returns-in-Unfed

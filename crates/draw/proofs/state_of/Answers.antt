@@ -3,7 +3,6 @@ use Rattle.draw.proofs.Points.{state_finished, state_shut, state_open}
 use Rattle.draw.specs.Drawing.{as_state}
 use mathlib.Core.Path.{◌∙◌}
 use native.Mathlib.Omega.{arith}
-use borrow.Author.Rules.{rules}
 use Rattle.draw.proofs.state_of.Goals as goal
 
 pub returns-then-deadline-tick : goal.returns-then-deadline-tick

@@ -1,13 +1,10 @@
 -- `time_of` meets its contract: no record passed is a slot of the dose, so the records left give the P that all give (Walks).
-use Prim.Native.Nat.{◌+◌, ◌-◌, ◌/◌, ◌≤◌}
+use Prim.Native.Nat.{◌+◌, ◌-◌}
 use mathlib.Core.Path.{◌≡◌, sym, ap, ◌∙◌}
 use native.Mathlib.Nat.{sub-zero}
 use native.Mathlib.Omega.{arith}
-use lib.ListN.{length}
-use Rattle.model.specs.Records.{record_size}
 use Rattle.model.specs.Plans.{Slot}
-use Rattle.draw.proofs.Walks.{time_left, time_found, time_again, time_end}
-use borrow.Author.Rules.{rules}
+use Rattle.draw.proofs.Walks.{time_found, time_again, time_end}
 use Rattle.draw.proofs.time_of.Goals as goal
 
 pub loop-k-init : goal.loop-k-init

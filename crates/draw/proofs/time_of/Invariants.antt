@@ -1,12 +1,8 @@
-use Prim.Native.Nat.{◌+◌, ◌-◌, ◌/◌, ◌≤◌}
-use mathlib.Core.Path.{◌≡◌, sym, ap, ◌∙◌}
-use native.Mathlib.Nat.{sub-zero}
-use native.Mathlib.Omega.{arith}
+use Prim.Native.Nat.{◌-◌, ◌/◌, ◌≤◌}
+use mathlib.Core.Path.{◌≡◌}
 use lib.ListN.{length}
 use Rattle.model.specs.Records.{record_size}
-use Rattle.model.specs.Plans.{Slot}
-use Rattle.draw.proofs.Walks.{time_left, time_found, time_again, time_end}
-use borrow.Author.Rules.{rules}
+use Rattle.draw.proofs.Walks.{time_left}
 use Rattle.draw.proofs.time_of.Given as goal
 
 abbrev pub invariant-loop-k : goal.invariant-loop-k

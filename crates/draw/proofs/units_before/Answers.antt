@@ -1,12 +1,9 @@
 -- `units_before` meets its contract: the sum so far and the units of the records left make the units of all (Walks).
-use Prim.Native.Nat.{◌+◌, ◌-◌, ◌/◌, ◌≤◌}
+use Prim.Native.Nat.{◌+◌, ◌-◌}
 use mathlib.Core.Path.{◌≡◌}
 use native.Mathlib.Nat.{sub-zero}
 use native.Mathlib.Omega.{arith}
-use lib.ListN.{length}
-use Rattle.model.specs.Records.{record_size}
-use Rattle.draw.proofs.Walks.{units_left, units_fit, units_again, units_end}
-use borrow.Author.Rules.{rules}
+use Rattle.draw.proofs.Walks.{units_fit, units_again, units_end}
 use Rattle.draw.proofs.units_before.Goals as goal
 
 pub loop-k-init : goal.loop-k-init

@@ -1,11 +1,8 @@
 use Prim.Native.Nat.{◌+◌, ◌-◌, ◌/◌, ◌≤◌}
 use mathlib.Core.Path.{◌≡◌}
-use native.Mathlib.Nat.{sub-zero}
-use native.Mathlib.Omega.{arith}
 use lib.ListN.{length}
 use Rattle.model.specs.Records.{record_size}
-use Rattle.draw.proofs.Walks.{units_left, units_fit, units_again, units_end}
-use borrow.Author.Rules.{rules}
+use Rattle.draw.proofs.Walks.{units_left}
 use Rattle.draw.proofs.units_before.Given as goal
 
 abbrev pub invariant-loop-k : goal.invariant-loop-k

@@ -1,6 +1,5 @@
 -- `units_in` meets its contract: the smaller of the slot's end and the tick, less its start.
 use Rattle.draw.specs.Drawing.{slot_units}
-use borrow.Author.Rules.{rules}
 use Rattle.draw.proofs.units_in.Goals as goal
 
 pub returns : goal.returns

@@ -3,7 +3,6 @@ use Rattle.model.specs.Answers.{no_point}
 use Rattle.judge.specs.Verdict.{as_answer}
 use Rattle.judge.specs.declared.Judged.{Judged}
 use mathlib.Core.Path.{sym, ap, ◌∙◌}
-use borrow.Author.Rules.{rules}
 use Rattle.draw.proofs.without_point.Goals as goal
 
 pub returns-in-Stands : goal.returns-in-Stands

@@ -1,9 +1,5 @@
 -- `all_pass` meets its contract: each test asks for one clause; later ones rest on earlier ones (Clauses).
-use Prim.Native.Nat.{ℕ, ◌/◌, ◌<◌, ◌≤◌}
-use lib.ListN.{get_or, length}
-use Rattle.model.specs.Records.{record_size}
-use Rattle.records.specs.Plan.{slot_in}
-use Rattle.judge_clauses.specs.Tests.{OrderHeld, SlotFits, order_held}
+use Rattle.judge_clauses.specs.Tests.{order_held}
 use Rattle.judge_clauses.proofs.Tell.{tells_by, tells_not, tells_off, tells_was}
 use Rattle.judge.proofs.Clauses.{counts_of, ready_of}
 use native.Mathlib.Omega.{arith}
@@ -53,8 +49,7 @@ pub units_met-requires : goal.units_met-requires
 units_met-requires c =
     let A = c.args in
     let held = order_held A.doses A.intervals A.fans A.release.now A.deadline.now A.grams.now A.instants.now in
-    let rows = tells_was c.rows_pass.ensures c.if-not-rows_pass.false in
-    (
+    let rows = tells_was c.rows_pass.ensures c.if-not-rows_pass.false in (
       c.requires.1,
       c.requires.0,
       λ k l. let number = rows.numbered k l in (number.0, omega (arith, number.1)),

@@ -3,7 +3,6 @@ use Rattle.order.specs.Held.{as_order}
 use Rattle.order.proofs.Fields.{few_doses}
 use Rattle.judge.proofs.OfOrder.{certifies, holds}
 use native.Mathlib.Omega.{arith}
-use borrow.Author.Rules.{rules}
 use Rattle.judge.proofs.certify.Goals as goal
 
 pub instants_of-s-requires : goal.instants_of-s-requires

@@ -1,13 +1,7 @@
 -- `judge` meets its contract: each answer is the verdict of its case (Verdicts).
-use mathlib.Core.Path.{◌≡◌}
-use Rattle.model.specs.Limits.{most_bay}
-use Rattle.model.specs.Records.{read}
-use Rattle.model.specs.Orders.{read_order}
 use Rattle.model.proofs.Orders.{read_fits}
-use Rattle.order.specs.Held.{as_order}
 use Rattle.order.proofs.Settles.{was_read, was_refused}
 use Rattle.judge.proofs.Verdicts.{judged_falls, judged_stands, judged_unread}
-use borrow.Author.Rules.{rules}
 use Rattle.judge.proofs.judge.Goals as goal
 
 pub returns-then-r-ne0 : goal.returns-then-r-ne0

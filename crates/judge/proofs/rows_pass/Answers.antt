@@ -1,7 +1,6 @@
 -- `rows_pass` meets its contract: each test asks for one clause.
 use Rattle.judge_clauses.proofs.Tell.{tells_by, tells_not, tells_off, tells_was}
 use native.Mathlib.Omega.{arith}
-use borrow.Author.Rules.{rules}
 use Rattle.judge.proofs.rows_pass.Goals as goal
 
 pub returns-then-plan-ne0 : goal.returns-then-plan-ne0

@@ -1,11 +1,10 @@
 -- `active_row` meets its contract: every interval has the number of active doses of the set so far.
-use mathlib.Core.Bool.{Bool, true, false}
+use mathlib.Core.Bool.{true, false}
 use mathlib.Core.List.{List}
 use mathlib.Core.Path.{◌≡◌, refl, sym, ◌∙◌}
-use Prim.Native.Nat.{ℕ, ◌-◌, ◌<◌, ◌≤◌}
+use Prim.Native.Nat.{ℕ}
 use native.Mathlib.Omega.{arith}
-use borrow.Author.Rules.{rules}
-use lib.ListN.{length, get_or}
+use lib.ListN.{get_or}
 use Rattle.model.specs.Limits.{most_intervals}
 use Rattle.model.specs.Sets.{on}
 use Rattle.measure.specs.Arrays.{set_of, reaches}

@@ -1,16 +1,9 @@
-use mathlib.Core.Bool.{Bool, true, false, not}
+use mathlib.Core.Bool.{Bool}
 use mathlib.Core.List.{List}
-use mathlib.Core.Path.{◌≡◌, refl, ◌∙◌}
+use mathlib.Core.Path.{◌≡◌}
 use Prim.Native.Nat.{ℕ, ◌-◌, ◌<◌, ◌≤◌}
-use native.Mathlib.Omega.{arith}
-use borrow.Author.Rules.{rules}
 use lib.ListN.{length, get_or}
 use Rattle.model.specs.Limits.{most_intervals}
-use Rattle.model.specs.Sets.{on}
-use Rattle.measure.specs.Arrays.{set_of, reaches}
-use Rattle.steps.proofs.Arrays.{all_same}
-use Rattle.steps.proofs.Tests.{on_most}
-use Rattle.steps.proofs.Loops.{at_end, weight_more, weight_none}
 use Rattle.measure.specs.Measure.{count_in}
 use Rattle.measure.proofs.active_row.Given as goal
 

@@ -1,12 +1,9 @@
 -- `count_dose` meets its contract: every interval passed has its count, and 1 more where the dose is active; those ahead have theirs still.
 use mathlib.Core.Bool.{Bool}
-use mathlib.Core.List.{List}
-use mathlib.Core.Path.{◌≡◌, refl, ◌∙◌, ap}
-use Prim.Native.Nat.{ℕ, ◌+◌, ◌-◌, ◌<◌, ◌≤◌}
+use mathlib.Core.Path.{refl, ◌∙◌, ap}
+use Prim.Native.Nat.{ℕ, ◌+◌}
 use native.Mathlib.Omega.{arith}
-use borrow.Author.Rules.{rules}
-use lib.ListN.{length, get_or, length-set}
-use Rattle.model.specs.Limits.{most_intervals}
+use lib.ListN.{get_or, length-set}
 use Rattle.model.specs.Sets.{on}
 use Rattle.measure.specs.Arrays.{in_window}
 use Rattle.steps.proofs.Loops.{stored, unreached}

@@ -1,14 +1,10 @@
-use mathlib.Core.Bool.{Bool}
 use mathlib.Core.List.{List}
-use mathlib.Core.Path.{◌≡◌, refl, ◌∙◌, ap}
+use mathlib.Core.Path.{◌≡◌}
 use Prim.Native.Nat.{ℕ, ◌+◌, ◌-◌, ◌<◌, ◌≤◌}
-use native.Mathlib.Omega.{arith}
-use borrow.Author.Rules.{rules}
-use lib.ListN.{length, get_or, length-set}
+use lib.ListN.{length, get_or}
 use Rattle.model.specs.Limits.{most_intervals}
 use Rattle.model.specs.Sets.{on}
 use Rattle.measure.specs.Arrays.{in_window}
-use Rattle.steps.proofs.Loops.{stored, unreached}
 use Rattle.measure.proofs.count_dose.Given as goal
 
 -- the count of interval m with the dose

@@ -1,8 +1,7 @@
 -- `fan_time` meets its contract: the sum so far is the fan time of the intervals passed.
 use mathlib.Core.Path.{◌≡◌, ◌∙◌, ap}
-use Prim.Native.Nat.{ℕ, ◌-◌, ◌*◌, ◌≤◌}
+use Prim.Native.Nat.{ℕ, ◌*◌}
 use native.Mathlib.Omega.{arith}
-use borrow.Author.Rules.{rules}
 use lib.ListN.{get_or}
 use Rattle.model.specs.Sets as sets
 use Rattle.measure.specs.Arrays.{len_of}

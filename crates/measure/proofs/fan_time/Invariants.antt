@@ -1,12 +1,8 @@
-use mathlib.Core.Path.{◌≡◌, ◌∙◌, ap}
-use Prim.Native.Nat.{ℕ, ◌-◌, ◌*◌, ◌≤◌}
-use native.Mathlib.Omega.{arith}
-use borrow.Author.Rules.{rules}
+use mathlib.Core.Path.{◌≡◌}
+use Prim.Native.Nat.{◌-◌, ◌*◌, ◌≤◌}
 use lib.ListN.{get_or}
 use Rattle.model.specs.Sets as sets
 use Rattle.measure.specs.Arrays.{len_of}
-use Rattle.steps.proofs.Loops.{at_end, sum_none, sum_step}
-use Rattle.steps.proofs.Products.{fan_seconds}
 use Rattle.measure.proofs.fan_time.Given as goal
 
 abbrev pub invariant-loop-j : goal.invariant-loop-j

@@ -1,12 +1,10 @@
 -- `first_set` meets its contract: the sum so far is the number of the set so far, and is below the next bit.
-use mathlib.Core.List.{List}
 use mathlib.Core.Path.{◌≡◌, refl}
-use Prim.Native.Nat.{ℕ, ◌-◌, ◌<◌, ◌≤◌, ◌^◌}
+use Prim.Native.Nat.{ℕ, ◌^◌}
 use Rattle.model.specs.Sets.{weight}
 use Rattle.steps.proofs.Bits.{bits_next, bit_most}
 use Rattle.measure.specs.Arrays.{sets_of}
 use Rattle.steps.proofs.Loops.{at_end, weight_none}
-use borrow.Author.Rules.{rules}
 use native.Mathlib.Omega.{arith}
 use Rattle.measure.proofs.first_set.Goals as goal
 

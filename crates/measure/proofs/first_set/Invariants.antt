@@ -1,12 +1,8 @@
 use mathlib.Core.List.{List}
-use mathlib.Core.Path.{◌≡◌, refl}
+use mathlib.Core.Path.{◌≡◌}
 use Prim.Native.Nat.{ℕ, ◌-◌, ◌<◌, ◌≤◌, ◌^◌}
 use Rattle.model.specs.Sets.{weight}
-use Rattle.steps.proofs.Bits.{bits_next, bit_most}
 use Rattle.measure.specs.Arrays.{sets_of}
-use Rattle.steps.proofs.Loops.{at_end, weight_none}
-use borrow.Author.Rules.{rules}
-use native.Mathlib.Omega.{arith}
 use Rattle.measure.proofs.first_set.Given as goal
 
 -- of the first k doses: the set's number, and the next bit above it

@@ -1,10 +1,8 @@
 -- `open_fans` meets its contract: every interval passed has the smaller of the two numbers, and those ahead have none.
-use mathlib.Core.List.{List}
-use mathlib.Core.Path.{◌≡◌, refl, ap, ◌∙◌}
-use Prim.Native.Nat.{ℕ, ◌<◌, ◌≤◌, ◌-◌, min}
+use mathlib.Core.Path.{refl, ap, ◌∙◌}
+use Prim.Native.Nat.{ℕ, min}
 use native.Mathlib.Omega.{arith}
-use borrow.Author.Rules.{rules}
-use lib.ListN.{length, get_or, length-set}
+use lib.ListN.{get_or, length-set}
 use Rattle.model.specs.Limits.{most_intervals}
 use Rattle.steps.proofs.Arrays.{all_same}
 use Rattle.steps.proofs.Loops.{stored, unreached}

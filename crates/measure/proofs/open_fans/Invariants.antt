@@ -1,13 +1,8 @@
 use mathlib.Core.List.{List}
-use mathlib.Core.Path.{◌≡◌, refl, ap, ◌∙◌}
+use mathlib.Core.Path.{◌≡◌}
 use Prim.Native.Nat.{ℕ, ◌<◌, ◌≤◌, ◌-◌, min}
-use native.Mathlib.Omega.{arith}
-use borrow.Author.Rules.{rules}
-use lib.ListN.{length, get_or, length-set}
+use lib.ListN.{length, get_or}
 use Rattle.model.specs.Limits.{most_intervals}
-use Rattle.steps.proofs.Arrays.{all_same}
-use Rattle.steps.proofs.Loops.{stored, unreached}
-use Rattle.steps.proofs.Tests.{below_or}
 use Rattle.measure.proofs.open_fans.Given as goal
 
 -- up to interval j the smaller is taken

@@ -1,13 +1,9 @@
 -- `set_of` meets its contract: every dose passed is marked where its number is that of the class.
-use Prim.Native.Nat.{ℕ, ◌+◌, ◌-◌}
+use Prim.Native.Nat.{ℕ, ◌+◌}
 use mathlib.Core.Path.{refl, ap}
-use mathlib.Core.Bool.{false}
 use lib.Dec.{eqb}
 use native.Mathlib.Omega.{arith}
-use borrow.Author.Rules.{rules}
-use Rattle.model.specs.Limits.{most_doses}
-use Rattle.measure.specs.Arrays.{sets_of}
-use Rattle.steps.proofs.Loops.{DoneTo, done_none, done_next, done_all}
+use Rattle.steps.proofs.Loops.{done_none, done_next, done_all}
 use Rattle.measure.proofs.set_of.Goals as goal
 
 pub loop-k-init : goal.loop-k-init

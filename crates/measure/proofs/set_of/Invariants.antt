@@ -1,12 +1,8 @@
-use Prim.Native.Nat.{ℕ, ◌+◌, ◌-◌}
-use mathlib.Core.Path.{refl, ap}
+use Prim.Native.Nat.{◌-◌}
 use mathlib.Core.Bool.{false}
-use lib.Dec.{eqb}
-use native.Mathlib.Omega.{arith}
-use borrow.Author.Rules.{rules}
 use Rattle.model.specs.Limits.{most_doses}
 use Rattle.measure.specs.Arrays.{sets_of}
-use Rattle.steps.proofs.Loops.{DoneTo, done_none, done_next, done_all}
+use Rattle.steps.proofs.Loops.{DoneTo}
 use Rattle.measure.proofs.set_of.Given as goal
 
 abbrev pub invariant-loop-k : goal.invariant-loop-k

@@ -1,9 +1,6 @@
 -- `size_of` meets its contract: the sum so far counts the members passed.
-use Prim.Native.Nat.{◌≤◌, ◌-◌, ◌*◌}
 use mathlib.Core.Path.{◌≡◌}
 use native.Mathlib.Omega.{arith}
-use borrow.Author.Rules.{rules}
-use Rattle.model.specs.Sets.{weight}
 use Rattle.measure.specs.Arrays.{set_of}
 use Rattle.steps.proofs.Loops.{weight_none, weight_step}
 use Rattle.measure.proofs.size_of.Goals as goal

@@ -1,10 +1,9 @@
 -- `weight_of` meets its contract: the sum so far is the weight of the doses passed, of 32 bits each.
-use Prim.Native.Nat.{ℕ, ◌≤◌, ◌-◌, ◌*◌}
+use Prim.Native.Nat.{ℕ}
 use mathlib.Core.Path.{◌≡◌, ap, ◌∙◌}
 use mathlib.Core.Bool.{false}
 use lib.ListN.{get_or}
 use native.Mathlib.Omega.{arith}
-use borrow.Author.Rules.{rules}
 use Rattle.model.specs.Sets.{on, weight}
 use Rattle.measure.specs.Arrays.{set_of}
 use Rattle.steps.proofs.Loops.{at_end, weight_none, weight_step}

@@ -1,12 +1,8 @@
-use Prim.Native.Nat.{ℕ, ◌≤◌, ◌-◌, ◌*◌}
-use mathlib.Core.Path.{◌≡◌, ap, ◌∙◌}
-use mathlib.Core.Bool.{false}
+use Prim.Native.Nat.{◌≤◌, ◌-◌, ◌*◌}
+use mathlib.Core.Path.{◌≡◌}
 use lib.ListN.{get_or}
-use native.Mathlib.Omega.{arith}
-use borrow.Author.Rules.{rules}
-use Rattle.model.specs.Sets.{on, weight}
+use Rattle.model.specs.Sets.{weight}
 use Rattle.measure.specs.Arrays.{set_of}
-use Rattle.steps.proofs.Loops.{at_end, weight_none, weight_step}
 use Rattle.measure.proofs.weight_of.Given as goal
 
 abbrev pub invariant-loop-k : goal.invariant-loop-k

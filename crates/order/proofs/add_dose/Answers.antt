@@ -1,7 +1,6 @@
 -- `add_dose` meets its contract: the order is that of `with_dose`, the places those of `with_place`, and one D more is counted.
 use Rattle.order.specs.Gathered.{with_dose_at}
 use Prim.Native.Nat.{◌+◌}
-use borrow.Author.Rules.{rules}
 use Rattle.order.proofs.add_dose.Goals as goal
 
 pub returns : goal.returns

@@ -1,6 +1,5 @@
 -- `add_other` meets its contract: an F is added to what was gathered, and anything else is what `refused_walk` makes of it (Takes).
 use Rattle.order.proofs.Takes.{no_fans, some_fans}
-use borrow.Author.Rules.{rules}
 use Rattle.order.proofs.add_other.Goals as goal
 
 pub returns-in_default : goal.returns-in_default

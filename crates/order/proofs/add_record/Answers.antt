@@ -2,7 +2,6 @@
 use mathlib.Core.Path.{ap, ◌∙◌}
 use Rattle.order.specs.Gathered.{taken}
 use Rattle.order.proofs.Takes.{no_dose_lem, some_dose}
-use borrow.Author.Rules.{rules}
 use Rattle.order.proofs.add_record.Goals as goal
 
 pub returns-in_default : goal.returns-in_default

@@ -5,7 +5,6 @@ use native.Mathlib.Omega.{arith}
 use lib.Dec.{ltb}
 use borrow.Author.Tests.{eq-eqb, ne_eqb, le-leb, lt-leb}
 use Rattle.order.proofs.Cases.{and_off, and_on, ltb_not}
-use borrow.Author.Rules.{rules}
 use Rattle.order.proofs.dose_clash.Goals as goal
 
 pub returns-then-x-y : goal.returns-then-x-y

@@ -1,16 +1,14 @@
 -- `earlier_clash` meets its contract: no dose passed clashes with dose k, so the first among those left is the first of all (Firsts).
-use Prim.Native.Nat.{ℕ, ◌≤◌, ◌-◌, ◌+◌}
+use Prim.Native.Nat.{ℕ, ◌-◌, ◌+◌}
 use mathlib.Core.Bool.{Bool}
 use mathlib.Core.Path.{◌≡◌, sym, ap, ◌∙◌}
 use native.Mathlib.Omega.{arith}
 use native.Mathlib.Nat.{sub-zero}
-use borrow.Author.Rules.{rules}
 use Rattle.model.specs.Orders.{clash}
 use Rattle.model.specs.Orders as orders
 use Rattle.order.specs.declared.Order.{Order}
-use Rattle.records.specs.Held.{as_dose}
 use Rattle.order.specs.Held.{dose_held}
-use Rattle.order.specs.Gathered.{first_of, doses_clash, earlier_clash}
+use Rattle.order.specs.Gathered.{doses_clash}
 use Rattle.order.proofs.Firsts.{first_none, first_stop, first_on}
 use Rattle.order.proofs.earlier_clash.Goals as goal
 

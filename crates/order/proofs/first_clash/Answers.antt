@@ -1,11 +1,11 @@
 -- `first_clash` meets its contract: no dose passed clashes with an earlier one, so the first among those left is the first of all (Firsts).
-use Prim.Native.Nat.{ℕ, ◌≤◌, ◌-◌, ◌+◌}
+use Prim.Native.Nat.{ℕ, ◌-◌, ◌+◌}
 use mathlib.Core.Path.{◌≡◌, refl, sym, ap, ◌∙◌}
 use native.Mathlib.Omega.{arith}
 use native.Mathlib.Nat.{sub-zero}
 use borrow.Author.Tests.{lt-ltb, le-ltb}
 use lib.Dec.{ltb}
-use Rattle.order.specs.Gathered.{first_of, clashes_earlier, first_clash}
+use Rattle.order.specs.Gathered.{clashes_earlier}
 use Rattle.order.proofs.Firsts.{first_none, first_stop, first_on}
 use Rattle.order.proofs.first_clash.Goals as goal
 

@@ -6,7 +6,6 @@ use Rattle.order.specs.Held.{held_reading}
 use Rattle.order.proofs.Cases.{and_off, and_on, at_off, at_on}
 use Rattle.order.proofs.Walks.{few_walked, each_from}
 use Rattle.order.proofs.Settles.{answers, walk_refused, walk_settled}
-use borrow.Author.Rules.{rules}
 use Rattle.order.proofs.read_order.Goals as goal
 
 pub returns-then-bytes-ne0 : goal.returns-then-bytes-ne0

@@ -1,5 +1,4 @@
 -- `refuse` meets its contract: the number and place are those given, and the order is the one of zeros.
-use borrow.Author.Rules.{rules}
 use Rattle.order.proofs.refuse.Goals as goal
 
 pub returns : goal.returns

@@ -1,6 +1,5 @@
 -- `refused_walk` meets its contract: a refusal gives its number and place, anything else 0, each with nothing gathered (Takes).
 use Rattle.order.proofs.Takes.{no_refusal, refusal}
-use borrow.Author.Rules.{rules}
 use Rattle.order.proofs.refused_walk.Goals as goal
 
 pub returns-in_default : goal.returns-in_default

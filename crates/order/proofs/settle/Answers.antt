@@ -6,7 +6,6 @@ use Rattle.order.specs.declared.Gathered.{Gathered}
 use Rattle.order.specs.declared.Reading.{Reading}
 use Rattle.order.specs.Gathered.{first_clash, clashed, settled, refused_reading}
 use Rattle.order.proofs.Cases.{at_off, at_on}
-use borrow.Author.Rules.{rules}
 use Rattle.order.proofs.settle.Goals as goal
 
 -- the answer for dose k is that for the first clash, which k is

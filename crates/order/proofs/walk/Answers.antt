@@ -1,10 +1,8 @@
 -- `walk` meets its contract: what is gathered so far and the records left come to what all come to; a refusal ends the walk (Walks).
-use Prim.Native.Nat.{◌-◌}
 use mathlib.Core.Path.{refl}
 use native.Mathlib.Omega.{arith}
-use borrow.Author.Rules.{rules}
 use Rattle.records.proofs.Records.{part_length}
-use Rattle.order.proofs.Walks.{Walking, walking_none, walking_stops, walking_goes, walking_ends}
+use Rattle.order.proofs.Walks.{walking_none, walking_stops, walking_goes, walking_ends}
 use Rattle.order.proofs.walk.Goals as goal
 
 pub no_records-s-requires : goal.no_records-s-requires

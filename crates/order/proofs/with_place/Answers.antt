@@ -1,7 +1,6 @@
 -- `with_place` meets its contract: with 24 doses the places stay as they are; with fewer, the next is written.
 use borrow.Author.Tests.{le-leb, lt-leb}
 use Rattle.order.specs.Gathered.{with_place}
-use borrow.Author.Rules.{rules}
 use Rattle.order.proofs.with_place.Goals as goal
 
 pub returns-then-count-ge-MOST_DOSES : goal.returns-then-count-ge-MOST_DOSES

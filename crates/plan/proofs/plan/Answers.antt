@@ -1,13 +1,7 @@
 -- `plan` meets its contract: 1 by the buffer's length, 2 to 8 and 15 by the reading, then 9 or the plan (Answering).
-use mathlib.Core.Path.{◌≡◌}
-use Rattle.model.specs.Limits.{last_open_bay}
-use Rattle.model.specs.Records.{read}
-use Rattle.model.specs.Orders.{read_order}
 use Rattle.model.proofs.Orders.{read_fits}
-use Rattle.order.specs.Held.{as_order}
 use Rattle.order.proofs.Settles.{was_read, was_refused}
 use Rattle.plan.proofs.Answering.{by_reading, nine_or_done, one}
-use borrow.Author.Rules.{rules}
 use Rattle.plan.proofs.plan.Goals as goal
 
 pub returns-then-plan-lt-PLAN_ROOM : goal.returns-then-plan-lt-PLAN_ROOM

@@ -1,13 +1,6 @@
 -- `lay_all` meets its contract: the records of the intervals passed are written, one interval behind the other (Runs).
-use mathlib.Core.Path.{◌≡◌, refl}
-use Prim.Native.Nat.{◌≤◌, ◌-◌}
+use mathlib.Core.Path.{refl}
 use native.Mathlib.Omega.{arith}
-use lib.ListN.{length}
-use Rattle.model.specs.Lists.{gather}
-use Rattle.model.specs.Plans.{slot_record}
-use Rattle.model.specs.Layout.{interval_slots}
-use Rattle.plan_layout.specs.Held.{table_from}
-use Rattle.plan_layout.specs.Laying.{Wrote}
 use Rattle.plan_layout.proofs.Runs.{gather_none, gather_more}
 use Rattle.plan_layout.proofs.Arrays.{room_for, table_all}
 use Rattle.plan_layout.proofs.lay_all.Goals as goal

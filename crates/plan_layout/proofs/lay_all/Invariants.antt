@@ -1,14 +1,11 @@
-use mathlib.Core.Path.{◌≡◌, refl}
+use mathlib.Core.Path.{◌≡◌}
 use Prim.Native.Nat.{◌≤◌, ◌-◌}
-use native.Mathlib.Omega.{arith}
 use lib.ListN.{length}
 use Rattle.model.specs.Lists.{gather}
 use Rattle.model.specs.Plans.{slot_record}
 use Rattle.model.specs.Layout.{interval_slots}
 use Rattle.plan_layout.specs.Held.{table_from}
 use Rattle.plan_layout.specs.Laying.{Wrote}
-use Rattle.plan_layout.proofs.Runs.{gather_none, gather_more}
-use Rattle.plan_layout.proofs.Arrays.{room_for, table_all}
 use Rattle.plan_layout.proofs.lay_all.Given as goal
 
 abbrev pub invariant-loop-j : goal.invariant-loop-j

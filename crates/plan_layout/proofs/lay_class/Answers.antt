@@ -1,11 +1,8 @@
 -- `lay_class` meets its contract: the shares of the doses passed are laid end to end, and `a` is their sum (Shares).
-use mathlib.Core.Path.{◌≡◌, refl}
-use Prim.Native.Nat.{◌≤◌, ◌-◌}
+use mathlib.Core.Path.{refl}
 use native.Mathlib.Omega.{arith}
-use lib.ListN.{length}
-use Rattle.plan_layout.specs.Held.{as_lane, share_at}
 use Rattle.plan_layout.proofs.Arrays.{share_is}
-use Rattle.plan_layout.proofs.Shares.{Kept, kept_none, kept_more, room_at, sum_at, laid_all}
+use Rattle.plan_layout.proofs.Shares.{kept_none, kept_more, room_at, sum_at, laid_all}
 use Rattle.plan_layout.proofs.lay_class.Goals as goal
 
 pub loop-k-init : goal.loop-k-init

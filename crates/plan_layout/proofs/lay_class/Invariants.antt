@@ -1,10 +1,8 @@
-use mathlib.Core.Path.{◌≡◌, refl}
+use mathlib.Core.Path.{◌≡◌}
 use Prim.Native.Nat.{◌≤◌, ◌-◌}
-use native.Mathlib.Omega.{arith}
 use lib.ListN.{length}
 use Rattle.plan_layout.specs.Held.{as_lane, share_at}
-use Rattle.plan_layout.proofs.Arrays.{share_is}
-use Rattle.plan_layout.proofs.Shares.{Kept, kept_none, kept_more, room_at, sum_at, laid_all}
+use Rattle.plan_layout.proofs.Shares.{Kept}
 use Rattle.plan_layout.proofs.lay_class.Given as goal
 
 abbrev pub invariant-loop-k : goal.invariant-loop-k

@@ -1,11 +1,10 @@
 -- `lay_interval` meets its contract: the classes passed are laid, and `below` is the sum of their reserved fans (Arrays).
-use mathlib.Core.Path.{◌≡◌, refl}
-use Prim.Native.Nat.{◌≤◌, ◌<◌, ◌-◌}
+use mathlib.Core.Path.{refl}
+use Prim.Native.Nat.{◌<◌}
 use native.Mathlib.Nat.{le_of_lt}
 use native.Mathlib.Omega.{arith}
-use lib.ListN.{length}
 use Rattle.model.specs.Limits.{most_doses, most_intervals}
-use Rattle.plan_layout.proofs.Arrays.{Rising, rising_none, rising_more, rooms_at, below_at, interval_all}
+use Rattle.plan_layout.proofs.Arrays.{rising_none, rising_more, rooms_at, below_at, interval_all}
 use Rattle.plan_layout.proofs.lay_interval.Goals as goal
 
 pub loop-i-init : goal.loop-i-init

@@ -1,10 +1,7 @@
-use mathlib.Core.Path.{◌≡◌, refl}
-use Prim.Native.Nat.{◌≤◌, ◌<◌, ◌-◌}
-use native.Mathlib.Nat.{le_of_lt}
-use native.Mathlib.Omega.{arith}
+use mathlib.Core.Path.{◌≡◌}
+use Prim.Native.Nat.{◌≤◌, ◌-◌}
 use lib.ListN.{length}
-use Rattle.model.specs.Limits.{most_doses, most_intervals}
-use Rattle.plan_layout.proofs.Arrays.{Rising, rising_none, rising_more, rooms_at, below_at, interval_all}
+use Rattle.plan_layout.proofs.Arrays.{Rising}
 use Rattle.plan_layout.proofs.lay_interval.Given as goal
 
 abbrev pub invariant-loop-i : goal.invariant-loop-i

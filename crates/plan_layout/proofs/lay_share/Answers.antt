@@ -1,13 +1,10 @@
 -- `lay_share` meets its contract: a share of 0 gives no record, an uncut share one, a cut share two (Shares).
 use lib.ListN.{length}
 use mathlib.Core.Path.{ap, ◌∙◌}
-use Prim.Native.Nat.{◌+◌, ◌*◌, ◌≤◌}
 use native.Mathlib.Omega.{arith}
-use Rattle.model.specs.Records.{record_size}
 use Rattle.records.proofs.Laws.{length_written}
 use Rattle.plan_layout.specs.Held.{as_lane}
-use Rattle.plan_layout.proofs.Shares.{Small, laid_none, laid_one, laid_two, room_one, room_two, small}
-use borrow.Author.Rules.{rules}
+use Rattle.plan_layout.proofs.Shares.{laid_none, laid_one, laid_two, room_one, room_two, small}
 use Rattle.plan_layout.proofs.lay_share.Goals as goal
 
 pub returns-then-x-eq0 : goal.returns-then-x-eq0

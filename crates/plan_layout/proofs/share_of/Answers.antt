@@ -4,7 +4,6 @@ use Prim.Native.Nat.{◌+◌, ◌*◌}
 use lib.ListN.{get_or}
 use Rattle.model.specs.Limits.{most_intervals}
 use Rattle.plan_layout.proofs.Arrays.{share_mine, share_other}
-use borrow.Author.Rules.{rules}
 use Rattle.plan_layout.proofs.share_of.Goals as goal
 
 pub returns-then-index-i : goal.returns-then-index-i

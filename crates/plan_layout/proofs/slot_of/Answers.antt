@@ -1,13 +1,10 @@
 -- `slot_of` meets its contract: ticks and parts are what division by W gives and leaves, and no tick is past the week (Shares).
 use mathlib.Core.Path.{refl}
-use Prim.Native.Nat.{◌+◌, ◌/◌, ◌≤◌}
 use native.Mathlib.Nat.{mod-lt}
 use native.Mathlib.Omega.{arith}
-use Rattle.model.specs.Limits.{week}
 use Rattle.model.specs.Layout.{piece_slot}
 use Rattle.plan_layout.specs.Held.{as_lane}
 use Rattle.plan_layout.proofs.Shares.{tick}
-use borrow.Author.Rules.{rules}
 use Rattle.plan_layout.proofs.slot_of.Goals as goal
 
 pub overflow_cast-result-2 : goal.overflow_cast-result-2

@@ -1,11 +1,7 @@
 -- `counts_of` meets its contract: every interval passed has its count.
-use Prim.Native.Nat.{◌-◌}
 use mathlib.Core.Path.{refl}
-use lib.ListN.{get_or}
 use native.Mathlib.Omega.{arith}
-use borrow.Author.Rules.{rules}
-use Rattle.model.specs.Limits.{most_intervals}
-use Rattle.steps.proofs.Loops.{DoneTo, done_none, done_next, done_all}
+use Rattle.steps.proofs.Loops.{done_none, done_next, done_all}
 use Rattle.classes.proofs.table.counts_of.Goals as goal
 
 pub loop-j-init : goal.loop-j-init

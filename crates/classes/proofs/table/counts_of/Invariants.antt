@@ -1,10 +1,7 @@
 use Prim.Native.Nat.{◌-◌}
-use mathlib.Core.Path.{refl}
 use lib.ListN.{get_or}
-use native.Mathlib.Omega.{arith}
-use borrow.Author.Rules.{rules}
 use Rattle.model.specs.Limits.{most_intervals}
-use Rattle.steps.proofs.Loops.{DoneTo, done_none, done_next, done_all}
+use Rattle.steps.proofs.Loops.{DoneTo}
 use Rattle.classes.proofs.table.counts_of.Given as goal
 
 abbrev pub invariant-loop-j : goal.invariant-loop-j

@@ -2,11 +2,7 @@
 use Prim.Native.Nat.{ℕ, ◌-◌}
 use mathlib.Core.Path.{refl, ap, ◌∙◌}
 use native.Mathlib.Omega.{arith}
-use borrow.Author.Rules.{rules}
-use Rattle.model.specs.Limits.{most_intervals}
-use Rattle.model.specs.Sets.{sum}
-use Rattle.classes.specs.Phase.{row_at}
-use Rattle.steps.proofs.Loops.{DoneTo, done_none, done_next, done_all}
+use Rattle.steps.proofs.Loops.{done_none, done_next, done_all}
 use Rattle.classes.proofs.table.free_fans.Goals as goal
 
 pub loop-j-init : goal.loop-j-init

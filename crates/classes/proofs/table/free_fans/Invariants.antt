@@ -1,11 +1,8 @@
-use Prim.Native.Nat.{ℕ, ◌-◌}
-use mathlib.Core.Path.{refl, ap, ◌∙◌}
-use native.Mathlib.Omega.{arith}
-use borrow.Author.Rules.{rules}
+use Prim.Native.Nat.{◌-◌}
 use Rattle.model.specs.Limits.{most_intervals}
 use Rattle.model.specs.Sets.{sum}
 use Rattle.classes.specs.Phase.{row_at}
-use Rattle.steps.proofs.Loops.{DoneTo, done_none, done_next, done_all}
+use Rattle.steps.proofs.Loops.{DoneTo}
 use Rattle.classes.proofs.table.free_fans.Given as goal
 
 abbrev pub invariant-loop-j : goal.invariant-loop-j

@@ -1,11 +1,7 @@
 -- `reserved_before` meets its contract: the sum so far is that of the rows passed.
-use Prim.Native.Nat.{◌+◌, ◌≤◌, ◌-◌, ◌*◌}
 use mathlib.Core.Path.{◌≡◌, ◌∙◌}
 use native.Mathlib.Omega.{arith}
-use borrow.Author.Rules.{rules}
-use Rattle.model.specs.Sets.{sum}
 use Rattle.steps.proofs.Loops.{sum_none, sum_step}
-use Rattle.classes.specs.Phase.{row_at}
 use Rattle.classes.proofs.table.reserved_before.Goals as goal
 
 pub loop-i-init : goal.loop-i-init

@@ -1,9 +1,6 @@
-use Prim.Native.Nat.{◌+◌, ◌≤◌, ◌-◌, ◌*◌}
-use mathlib.Core.Path.{◌≡◌, ◌∙◌}
-use native.Mathlib.Omega.{arith}
-use borrow.Author.Rules.{rules}
+use Prim.Native.Nat.{◌≤◌, ◌-◌, ◌*◌}
+use mathlib.Core.Path.{◌≡◌}
 use Rattle.model.specs.Sets.{sum}
-use Rattle.steps.proofs.Loops.{sum_none, sum_step}
 use Rattle.classes.specs.Phase.{row_at}
 use Rattle.classes.proofs.table.reserved_before.Given as goal
 

@@ -1,9 +1,6 @@
 -- `all_numbered` meets its contract: every dose passed has one of the p classes.
-use Prim.Native.Nat.{ℕ, ◌-◌, ◌<◌, ◌≤◌}
-use lib.ListN.{get_or}
 use borrow.Author.Count.{below_more}
 use Rattle.judge_clauses.proofs.Tell.{tells_off, tells_on}
-use borrow.Author.Rules.{rules}
 use native.Mathlib.Omega.{arith}
 use Rattle.judge.proofs.numbers.all_numbered.Goals as goal
 

@@ -1,10 +1,5 @@
 -- `class_numbers` meets its contract: the numbers so far are those of the slots passed (Naming).
-use mathlib.Core.List.{List}
-use mathlib.Core.Path.{◌≡◌, refl}
-use Prim.Native.Nat.{ℕ, ◌-◌, ◌/◌, ◌≤◌}
-use lib.ListN.{length}
-use Rattle.model.specs.Records.{record_size}
-use Rattle.judge_clauses.specs.Tests.{ClassNumbers}
+use mathlib.Core.Path.{refl}
 use Rattle.judge.proofs.Naming.{numbers_more, numbers_none, numbers_to}
 use native.Mathlib.Omega.{arith}
 use Rattle.judge.proofs.numbers.class_numbers.Goals as goal

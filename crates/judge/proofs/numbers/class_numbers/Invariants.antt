@@ -1,11 +1,9 @@
 use mathlib.Core.List.{List}
-use mathlib.Core.Path.{◌≡◌, refl}
+use mathlib.Core.Path.{◌≡◌}
 use Prim.Native.Nat.{ℕ, ◌-◌, ◌/◌, ◌≤◌}
 use lib.ListN.{length}
 use Rattle.model.specs.Records.{record_size}
 use Rattle.judge_clauses.specs.Tests.{ClassNumbers}
-use Rattle.judge.proofs.Naming.{numbers_more, numbers_none, numbers_to}
-use native.Mathlib.Omega.{arith}
 use Rattle.judge.proofs.numbers.class_numbers.Given as goal
 
 -- the slots up to record i are passed

@@ -5,7 +5,6 @@ use Rattle.judge.specs.declared.Judged.TheVariants as is
 use Rattle.order.proofs.Fields.{few_doses}
 use Rattle.judge.proofs.OfOrder.{leader_fast, leader_slow}
 use native.Mathlib.Omega.{arith}
-use borrow.Author.Rules.{rules}
 use Rattle.judge.proofs.top.against_top.Goals as goal
 
 pub returns-then-classes-eq0 : goal.returns-then-classes-eq0

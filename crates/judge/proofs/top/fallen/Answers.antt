@@ -5,7 +5,6 @@ use Rattle.order.specs.Held.{as_order}
 use Rattle.judge.specs.Verdict.{slow}
 use Rattle.judge.specs.declared.Judged.TheVariants as is
 use Rattle.judge.proofs.OfOrder.{fast_by_lem}
-use borrow.Author.Rules.{rules}
 use Rattle.judge.proofs.top.fallen.Goals as goal
 
 pub returns-then-top : goal.returns-then-top

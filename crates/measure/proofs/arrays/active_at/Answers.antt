@@ -1,5 +1,4 @@
 -- `active_at` meets its contract, test by test.
-use borrow.Author.Rules.{rules}
 use borrow.Author.Tests.{lt-ltb, le-ltb}
 use Rattle.measure.proofs.arrays.active_at.Goals as goal
 

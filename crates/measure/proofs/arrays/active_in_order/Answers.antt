@@ -1,13 +1,7 @@
 -- `active_in_order` meets its contract: every place passed says whether the dose is active.
-use Prim.Native.Nat.{◌-◌, ◌/◌, ◌%◌}
 use mathlib.Core.Path.{refl}
-use mathlib.Core.Bool.{false, ◌&&◌}
 use native.Mathlib.Omega.{arith}
-use borrow.Author.Rules.{rules}
-use lib.Dec.{ltb}
-use Rattle.model.specs.Limits.{cells, most_intervals}
-use Rattle.interval.specs.Held.{active_in}
-use Rattle.steps.proofs.Loops.{DoneTo, done_none, done_next, done_all}
+use Rattle.steps.proofs.Loops.{done_none, done_next, done_all}
 use Rattle.measure.proofs.arrays.active_in_order.Goals as goal
 
 pub loop-i-init : goal.loop-i-init

@@ -1,12 +1,9 @@
 use Prim.Native.Nat.{◌-◌, ◌/◌, ◌%◌}
-use mathlib.Core.Path.{refl}
 use mathlib.Core.Bool.{false, ◌&&◌}
-use native.Mathlib.Omega.{arith}
-use borrow.Author.Rules.{rules}
 use lib.Dec.{ltb}
 use Rattle.model.specs.Limits.{cells, most_intervals}
 use Rattle.interval.specs.Held.{active_in}
-use Rattle.steps.proofs.Loops.{DoneTo, done_none, done_next, done_all}
+use Rattle.steps.proofs.Loops.{DoneTo}
 use Rattle.measure.proofs.arrays.active_in_order.Given as goal
 
 abbrev pub invariant-loop-i : goal.invariant-loop-i

@@ -1,12 +1,9 @@
 -- `grams_in` meets its contract: the grams of the doses passed, and zeros behind.
-use Prim.Native.Nat.{ℕ, ◌<◌, ◌≤◌, ◌-◌}
-use mathlib.Core.List.{List}
-use mathlib.Core.Path.{◌≡◌, refl}
-use lib.ListN.{length, get_or, length-set}
+use Prim.Native.Nat.{ℕ}
+use mathlib.Core.Path.{refl}
+use lib.ListN.{get_or, length-set}
 use native.Mathlib.Omega.{arith}
-use borrow.Author.Rules.{rules}
 use Rattle.model.specs.Limits.{most_doses}
-use Rattle.order.specs.declared.Order.{Order}
 use Rattle.steps.proofs.Loops.{stored, unreached}
 use Rattle.steps.proofs.Arrays.{all_same}
 use Rattle.measure.proofs.arrays.grams_in.Goals as goal

@@ -1,13 +1,9 @@
 use Prim.Native.Nat.{ℕ, ◌<◌, ◌≤◌, ◌-◌}
 use mathlib.Core.List.{List}
-use mathlib.Core.Path.{◌≡◌, refl}
-use lib.ListN.{length, get_or, length-set}
-use native.Mathlib.Omega.{arith}
-use borrow.Author.Rules.{rules}
+use mathlib.Core.Path.{◌≡◌}
+use lib.ListN.{length, get_or}
 use Rattle.model.specs.Limits.{most_doses}
 use Rattle.order.specs.declared.Order.{Order}
-use Rattle.steps.proofs.Loops.{stored, unreached}
-use Rattle.steps.proofs.Arrays.{all_same}
 use Rattle.measure.proofs.arrays.grams_in.Given as goal
 
 -- the first k doses have their grams, and the places behind have none

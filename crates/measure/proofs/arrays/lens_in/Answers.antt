@@ -1,12 +1,8 @@
 -- `lens_in` meets its contract: every interval passed has its length.
-use Prim.Native.Nat.{◌-◌}
 use mathlib.Core.Path.{refl, ◌∙◌}
 use lib.ListN.{get_or-eq_default}
 use native.Mathlib.Omega.{arith}
-use borrow.Author.Rules.{rules}
-use Rattle.model.specs.Limits.{most_intervals}
-use Rattle.interval.specs.Held.{span_in}
-use Rattle.steps.proofs.Loops.{DoneTo, done_none, done_next, done_all}
+use Rattle.steps.proofs.Loops.{done_none, done_next, done_all}
 use Rattle.measure.proofs.arrays.lens_in.Goals as goal
 
 pub loop-j-init : goal.loop-j-init

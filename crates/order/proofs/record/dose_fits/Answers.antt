@@ -2,7 +2,6 @@
 use mathlib.Core.Path.{sym}
 use borrow.Author.Tests.{le-leb, lt-leb}
 use Rattle.order.proofs.Cases.{was_off, was_on, and_off, and_on}
-use borrow.Author.Rules.{rules}
 use Rattle.order.proofs.record.dose_fits.Goals as goal
 
 pub returns-then-not-inside : goal.returns-then-not-inside

@@ -6,7 +6,6 @@ use Rattle.order.specs.declared.Entry.TheVariants as is
 use Rattle.records.specs.Held.{held_fans}
 use Rattle.order.specs.Held.{held_entry}
 use Rattle.order.proofs.Takes.{fault_of_lem, faulty, faultless}
-use borrow.Author.Rules.{rules}
 use Rattle.order.proofs.record.fans_entry.Goals as goal
 
 pub returns-then-n-ne0 : goal.returns-then-n-ne0

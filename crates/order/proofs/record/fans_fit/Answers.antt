@@ -1,5 +1,4 @@
 -- `fans_fit` meets its contract: fans, rule, top grams and top seconds, each asked for its range.
-use borrow.Author.Rules.{rules}
 use Rattle.order.proofs.record.fans_fit.Goals as goal
 
 pub returns : goal.returns

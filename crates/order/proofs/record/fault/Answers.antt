@@ -1,5 +1,4 @@
 -- `fault` meets its contract: the zeros are asked first and give 4, then the ranges 5, then the bay 15, and none gives 0.
-use borrow.Author.Tests.{not-true, not-false}
 use Rattle.order.specs.Gathered.{fault_of}
 use Rattle.order.proofs.record.fault.Goals as goal
 

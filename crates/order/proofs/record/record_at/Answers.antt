@@ -4,7 +4,6 @@ use borrow.Author.Tests.{eq-eqb, ne_eqb}
 use Rattle.model.specs.Orders.{entry_of}
 use Rattle.order.specs.Held.{held_entry}
 use Rattle.order.proofs.Cases.{at_off, at_on}
-use borrow.Author.Rules.{rules}
 use Rattle.order.proofs.record.record_at.Goals as goal
 
 pub returns-then-kind-eq-FANS_KIND : goal.returns-then-kind-eq-FANS_KIND

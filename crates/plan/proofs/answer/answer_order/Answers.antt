@@ -1,6 +1,5 @@
 -- `answer_order` meets its contract: a first class above the top rate is 9 with no byte written; else the plan is written (Answering).
 use Rattle.plan.proofs.Answering.{slow_enough, too_fast_lem}
-use borrow.Author.Rules.{rules}
 use Rattle.plan.proofs.answer.answer_order.Goals as goal
 
 pub returns-then-fast : goal.returns-then-fast

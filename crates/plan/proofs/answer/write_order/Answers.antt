@@ -22,8 +22,8 @@ write_plan-slots-requires c =
     let shares = c.requires.2 in
     let size : length A.shares.now ≡ cells = search rules in
     let hold : TablesHold (as_order A.o) c.tables_of-t.result A.shares.now A.reserved.now =
-        tables_hold c.requires.0 c.instants_of-instants.ensures c.tables_of-t.ensures classes.classes classes.weight classes.time shares.rows size
-        shares.valid in
+    tables_hold c.requires.0 c.instants_of-instants.ensures c.tables_of-t.ensures classes.classes classes.weight classes.time shares.rows size
+    shares.valid in
     (filled _ _ _ _ hold c.requires.0, roomy _ _ _ _ hold c.requires.0 c.requires.3)
 
 pub returns : goal.returns
@@ -33,6 +33,6 @@ returns c =
     let shares = c.requires.2 in
     let size : length A.shares.now ≡ cells = search rules in
     let hold : TablesHold (as_order A.o) c.tables_of-t.result A.shares.now A.reserved.now =
-        tables_hold c.requires.0 c.instants_of-instants.ensures c.tables_of-t.ensures classes.classes classes.weight classes.time shares.rows size
-        shares.valid in
+    tables_hold c.requires.0 c.instants_of-instants.ensures c.tables_of-t.ensures classes.classes classes.weight classes.time shares.rows size
+    shares.valid in
     written _ _ _ _ hold c.write_plan-slots.ensures.slots c.write_plan-slots.ensures.bytes c.finished.ensures

@@ -1,9 +1,8 @@
 -- `narrow` meets its contract: every place passed has the remainder of its number by 4,294,967,296.
-use mathlib.Core.Path.{◌≡◌, refl}
-use Prim.Native.Nat.{ℕ, ◌-◌, ◌%◌, ◌≤◌, ◌<◌}
+use mathlib.Core.Path.{refl}
+use Prim.Native.Nat.{◌%◌}
 use native.Mathlib.Omega.{arith}
-use lib.ListN.{get_or, length}
-use Rattle.model.specs.Limits.{most_doses}
+use lib.ListN.{get_or}
 use Rattle.steps.proofs.Loops.{stored}
 use borrow.Author.Rules.{rules}
 use Rattle.plan.proofs.tables.narrow.Goals as goal

@@ -1,10 +1,7 @@
-use mathlib.Core.Path.{◌≡◌, refl}
+use mathlib.Core.Path.{◌≡◌}
 use Prim.Native.Nat.{ℕ, ◌-◌, ◌%◌, ◌≤◌, ◌<◌}
-use native.Mathlib.Omega.{arith}
 use lib.ListN.{get_or, length}
 use Rattle.model.specs.Limits.{most_doses}
-use Rattle.steps.proofs.Loops.{stored}
-use borrow.Author.Rules.{rules}
 use Rattle.plan.proofs.tables.narrow.Given as goal
 
 abbrev pub invariant-loop-i : goal.invariant-loop-i

@@ -4,7 +4,6 @@ use native.Mathlib.Omega.{arith}
 use Rattle.model.proofs.Sets.{weight_alike}
 use Rattle.measure.specs.Arrays.{set_of}
 use Rattle.plan.specs.Held.{class_from, members_from}
-use borrow.Author.Rules.{rules}
 use Rattle.plan.proofs.write.class_from.Goals as goal
 
 -- the set counted is that of the doses of class i

@@ -1,15 +1,7 @@
 -- `put_classes` meets its contract: the C records of the classes passed are written, and record i is the next (Writing).
-use mathlib.Core.Path.{◌≡◌, refl}
-use mathlib.Core.List.{[], ◌∷◌}
-use Prim.Native.Nat.{◌≤◌, ◌-◌}
+use mathlib.Core.Path.{refl}
 use native.Mathlib.Omega.{arith}
-use lib.ListN.{length}
-use Rattle.model.specs.Lists.{gather}
-use Rattle.model.specs.Plans.{class_record}
-use Rattle.plan_layout.specs.Laying.{Wrote}
-use Rattle.plan.specs.Held.{class_from}
 use Rattle.plan.proofs.Writing.{classes_all, classes_more, classes_none}
-use borrow.Author.Rules.{rules}
 use Rattle.plan.proofs.write.put_classes.Goals as goal
 
 pub loop-i-init : goal.loop-i-init

@@ -1,14 +1,11 @@
-use mathlib.Core.Path.{◌≡◌, refl}
+use mathlib.Core.Path.{◌≡◌}
 use mathlib.Core.List.{[], ◌∷◌}
 use Prim.Native.Nat.{◌≤◌, ◌-◌}
-use native.Mathlib.Omega.{arith}
 use lib.ListN.{length}
 use Rattle.model.specs.Lists.{gather}
 use Rattle.model.specs.Plans.{class_record}
 use Rattle.plan_layout.specs.Laying.{Wrote}
 use Rattle.plan.specs.Held.{class_from}
-use Rattle.plan.proofs.Writing.{classes_all, classes_more, classes_none}
-use borrow.Author.Rules.{rules}
 use Rattle.plan.proofs.write.put_classes.Given as goal
 
 abbrev pub invariant-loop-i : goal.invariant-loop-i

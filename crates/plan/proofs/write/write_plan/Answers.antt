@@ -4,7 +4,6 @@ use Rattle.model.proofs.Lists.{length_singles}
 use Rattle.plan_layout.proofs.Runs.{wrote_length}
 use Rattle.plan.specs.Held.{class_from}
 use Rattle.plan.proofs.Writing.{classes_next, plan_written}
-use borrow.Author.Rules.{rules}
 use Rattle.plan.proofs.write.write_plan.Goals as goal
 
 pub lay_all-next-requires : goal.lay_all-next-requires

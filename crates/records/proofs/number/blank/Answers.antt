@@ -1,10 +1,8 @@
 -- `blank` meets its contract: the bytes passed are zero, so the number in the bytes left is 0 just where the whole is (Laws).
-use Prim.Native.Nat.{◌≤◌, ◌-◌, ◌+◌}
+use Prim.Native.Nat.{◌-◌, ◌+◌}
 use mathlib.Core.Path.{◌≡◌, sym, ◌∙◌}
 use native.Mathlib.Omega.{arith}
 use native.Mathlib.Nat.{add-sub_cancel_left}
-use lib.Dec.{eqb}
-use Rattle.model.specs.Records.{number_at}
 use Rattle.records.proofs.Laws.{blank_none, blank_on, blank_stop}
 use Rattle.records.proofs.number.blank.Goals as goal
 

@@ -1,10 +1,7 @@
 use Prim.Native.Nat.{◌≤◌, ◌-◌, ◌+◌}
-use mathlib.Core.Path.{◌≡◌, sym, ◌∙◌}
-use native.Mathlib.Omega.{arith}
-use native.Mathlib.Nat.{add-sub_cancel_left}
+use mathlib.Core.Path.{◌≡◌}
 use lib.Dec.{eqb}
 use Rattle.model.specs.Records.{number_at}
-use Rattle.records.proofs.Laws.{blank_none, blank_on, blank_stop}
 use Rattle.records.proofs.number.blank.Given as goal
 
 abbrev pub invariant-loop-i : goal.invariant-loop-i

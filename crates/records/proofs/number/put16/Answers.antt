@@ -4,7 +4,6 @@ use native.Mathlib.Omega.{arith}
 use native.Mathlib.Numerals.{add-one}
 use Rattle.model.specs.Records.{number_bytes}
 use Rattle.records.specs.Written.{written}
-use borrow.Author.Rules.{rules}
 use Rattle.records.proofs.number.put16.Goals as goal
 
 pub bounds-b-at-2 : goal.bounds-b-at-2

@@ -5,7 +5,6 @@ use native.Mathlib.Numerals.{add-one}
 use Rattle.model.specs.Records.{number_bytes}
 use Rattle.records.specs.Written.{written}
 use Rattle.records.proofs.Laws.{two, three}
-use borrow.Author.Rules.{rules}
 use Rattle.records.proofs.number.put32.Goals as goal
 
 pub bounds-b-at-2 : goal.bounds-b-at-2

@@ -2,7 +2,6 @@
 use Rattle.model.specs.Records.{number_bytes}
 use Rattle.records.specs.Written.{written}
 use mathlib.Core.Path.{refl}
-use borrow.Author.Rules.{rules}
 use Rattle.records.proofs.number.put8.Goals as goal
 
 pub returns : goal.returns

@@ -1,10 +1,9 @@
 -- `put_blank` meets its contract: the bytes passed are zeros, and every other byte is as before (Laws).
-use Prim.Native.Nat.{ℕ, ◌≤◌, ◌-◌, ◌+◌}
+use Prim.Native.Nat.{ℕ, ◌+◌}
 use mathlib.Core.Path.{◌≡◌, refl, ap, ◌∙◌}
 use mathlib.Core.List.{List}
 use native.Mathlib.Omega.{arith}
-use lib.ListN.{length, replicate, set, length-set}
-use Rattle.records.specs.Written.{written}
+use lib.ListN.{set, length-set}
 use Rattle.records.proofs.Laws.{written_none, one_more}
 use Rattle.records.proofs.number.put_blank.Goals as goal
 

@@ -1,7 +1,6 @@
 -- `read16` meets its contract: the first byte and 256 times the second make the number (Laws).
 use native.Mathlib.Omega.{arith}
 use Rattle.records.proofs.Laws.{number2}
-use borrow.Author.Rules.{rules}
 use Rattle.records.proofs.number.read16.Goals as goal
 
 pub returns : goal.returns

@@ -1,7 +1,6 @@
 -- `read32` meets its contract: the four bytes, each times its power of 256, make the number (Laws).
 use native.Mathlib.Omega.{arith}
 use Rattle.records.proofs.Laws.{number4}
-use borrow.Author.Rules.{rules}
 use Rattle.records.proofs.number.read32.Goals as goal
 
 pub returns : goal.returns

@@ -1,7 +1,6 @@
 -- `read8` meets its contract: the number in one byte is that byte (Laws).
 use native.Mathlib.Omega.{arith}
 use Rattle.records.proofs.Laws.{number1}
-use borrow.Author.Rules.{rules}
 use Rattle.records.proofs.number.read8.Goals as goal
 
 pub returns : goal.returns

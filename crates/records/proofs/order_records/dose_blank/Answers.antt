@@ -1,7 +1,6 @@
 -- `dose_blank` meets its contract: byte 1, and the bytes from 16 on, are asked to be zero.
 use mathlib.Core.Bool.{and-true}
 use Rattle.model.specs.Records.{blank_at}
-use borrow.Author.Rules.{rules}
 use Rattle.records.proofs.order_records.dose_blank.Goals as goal
 
 pub returns : goal.returns

@@ -1,6 +1,5 @@
 -- `dose_in` meets its contract: the fields of a D record, each read at its place.
 use Rattle.model.specs.Records.{fields_at}
-use borrow.Author.Rules.{rules}
 use Rattle.records.proofs.order_records.dose_in.Goals as goal
 
 pub returns : goal.returns

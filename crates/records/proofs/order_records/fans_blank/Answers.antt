@@ -1,7 +1,6 @@
 -- `fans_blank` meets its contract: byte 3, and the bytes from 12 on, are asked to be zero.
 use mathlib.Core.Bool.{and-true}
 use Rattle.model.specs.Records.{blank_at}
-use borrow.Author.Rules.{rules}
 use Rattle.records.proofs.order_records.fans_blank.Goals as goal
 
 pub returns : goal.returns

@@ -2,7 +2,6 @@
 use mathlib.Core.Path.{refl}
 use Rattle.model.specs.Records.{number_bytes, record_bytes}
 use Rattle.records.proofs.Laws.{join}
-use borrow.Author.Rules.{rules}
 use Rattle.records.proofs.order_records.put_dose.Goals as goal
 
 pub returns : goal.returns

@@ -3,7 +3,6 @@ use Rattle.model.specs.Plans.{class_of}
 use Rattle.records.specs.Plan.{class_in}
 use Rattle.records.proofs.Records.{read_part, part_length}
 use native.Mathlib.Omega.{arith}
-use borrow.Author.Rules.{rules}
 use Rattle.records.proofs.plan.class_at.Goals as goal
 
 pub class_in-requires : goal.class_in-requires

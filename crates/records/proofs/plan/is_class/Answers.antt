@@ -2,7 +2,6 @@
 use Rattle.model.specs.Records.{class_kind, class_parts}
 use Rattle.records.specs.Plan.{is_class}
 use Rattle.records.proofs.Records.{of_kind}
-use borrow.Author.Rules.{rules}
 use Rattle.records.proofs.plan.is_class.Goals as goal
 
 pub returns : goal.returns

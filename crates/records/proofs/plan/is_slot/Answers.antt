@@ -2,7 +2,6 @@
 use Rattle.model.specs.Records.{slot_kind, slot_parts}
 use Rattle.records.specs.Plan.{is_slot}
 use Rattle.records.proofs.Records.{of_kind}
-use borrow.Author.Rules.{rules}
 use Rattle.records.proofs.plan.is_slot.Goals as goal
 
 pub returns : goal.returns

@@ -1,7 +1,6 @@
 -- `kind_at` meets its contract: the part of the bytes that is lent is record i.
 use lib.ListN.{get_or}
 use Rattle.records.proofs.Records.{read_part}
-use borrow.Author.Rules.{rules}
 use Rattle.records.proofs.plan.kind_at.Goals as goal
 
 pub returns : goal.returns

@@ -3,7 +3,6 @@ use Rattle.model.specs.Plans.{slot_of}
 use Rattle.records.specs.Plan.{slot_in}
 use Rattle.records.proofs.Records.{read_part, part_length}
 use native.Mathlib.Omega.{arith}
-use borrow.Author.Rules.{rules}
 use Rattle.records.proofs.plan.slot_at.Goals as goal
 
 pub slot_in-requires : goal.slot_in-requires

@@ -1,6 +1,5 @@
 -- `class_in` meets its contract: the fields of a C record, each read at its place.
 use Rattle.model.specs.Records.{fields_at}
-use borrow.Author.Rules.{rules}
 use Rattle.records.proofs.plan_records.class_in.Goals as goal
 
 pub returns : goal.returns

@@ -1,7 +1,6 @@
 -- `moment` meets its contract: a product of two fields and a third fit 64 bits.
 use Rattle.steps.proofs.Products.{product_fits}
 use native.Mathlib.Omega.{arith}
-use borrow.Author.Rules.{rules}
 use Rattle.records.proofs.plan_records.moment.Goals as goal
 
 pub overflow_mul-result : goal.overflow_mul-result

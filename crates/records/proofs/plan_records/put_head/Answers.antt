@@ -2,7 +2,6 @@
 use mathlib.Core.Path.{refl}
 use Rattle.records.proofs.Laws.{join}
 use Rattle.model.specs.Records.{number_bytes}
-use borrow.Author.Rules.{rules}
 use Rattle.records.proofs.plan_records.put_head.Goals as goal
 
 pub returns : goal.returns

@@ -3,7 +3,6 @@ use mathlib.Core.Path.{refl}
 use Rattle.records.proofs.Laws.{join}
 use Rattle.model.specs.Records.{number_bytes, record_bytes}
 use Rattle.model.specs.Plans.{plan_record_bytes}
-use borrow.Author.Rules.{rules}
 use Rattle.records.proofs.plan_records.put_slot.Goals as goal
 
 pub returns : goal.returns

@@ -2,7 +2,6 @@
 use mathlib.Core.Path.{◌∙◌, sym}
 use mathlib.Core.Bool.{and-true}
 use Rattle.model.specs.Records.{blank_at}
-use borrow.Author.Rules.{rules}
 use Rattle.records.proofs.plan_records.slot_blank.Goals as goal
 
 pub returns : goal.returns
