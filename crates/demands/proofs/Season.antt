@@ -23,7 +23,7 @@ use Rattle.model.specs.Classes.{Classes, class_p}
 use Rattle.model.specs.Intervals.{fans_present, setting_of}
 use Rattle.model.specs.Stands.{Stands}
 use Rattle.model.specs.Answers.{Accepts, Answer, Judges, refusal}
-use Rattle.model.specs.Season.{AddedUp, AddsUp, Comes, begins, orders_from, stream_fits, FirstRate, Outcome, Rate, Season, Takes, accepted_with, first_class, no_class_lem, greater, grams_of, if_accepted, no_rate, not_added_up, read_stream, refused_by, season_of, seconds_of}
+use Rattle.model.specs.Season.{AddedUp, AddsUp, Comes, begins, orders_from, stream_fits, FirstRate, Outcome, Rate, Season, Takes, accepted_with, first_class, no_first_class, greater, grams_of, if_accepted, no_rate, not_added_up, read_stream, refused_by, season_of, seconds_of}
 use Rattle.model.proofs.Answers.{first_next, no_doses, one_order, refused_not_accepted}
 use Rattle.model.proofs.Lists.{Along-append, total_append}
 use Rattle.model.proofs.Orders.{read_fits}
@@ -115,7 +115,7 @@ comes_some order = elim (order_decided most_bay order) [
   where
     first_some : (o : Order) (p : ℕ) (C : ℕ → Doses) → Classes (setting_of o) (fans_present o) p C → (r : Rate) × FirstRate o r
     first_some o p C c = elim (eq-zero-or-pos p) [
-      | inl z ↦ (no_rate, no_class_lem (no_doses o p C c z))
+      | inl z ↦ (no_rate, no_first_class (no_doses o p C c z))
       | inr l ↦ (_, first_class (C 0) (first_next o p C c l))
     ]
 

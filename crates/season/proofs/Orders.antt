@@ -12,7 +12,7 @@ use Rattle.model.specs.Orders.{Order, read_order}
 use Rattle.model.specs.Intervals.{fans_present, setting_of}
 use Rattle.model.specs.Answers.{refusal, unread}
 use Rattle.model.specs.Answers as answers
-use Rattle.model.specs.Season.{Comes, FirstRate, Rate, accepted_with, first_class, no_class_lem, refused_by}
+use Rattle.model.specs.Season.{Comes, FirstRate, Rate, accepted_with, first_class, no_first_class, refused_by}
 use Rattle.model.proofs.Sums.{sum_congr}
 use Rattle.model.proofs.Sequence.{few_classes}
 use Rattle.model.proofs.Orders.{Fit}
@@ -39,7 +39,7 @@ module _ (o : Order) (fit : Fit o) (t : Tally) (c : ClassesOf o t) where
 
   -- the first class, or none
   pub first_none : t.class ≡ 0 → FirstRate o (record { weight = 0; time = 1 })
-  first_none e = no_class_lem (no_doses o t.class (classes_in t) c.classes e)
+  first_none e = no_first_class (no_doses o t.class (classes_in t) c.classes e)
 
   pub first_some : 0 < t.class → FirstRate o (record { weight = get_or t.weight 0 0; time = get_or t.time 0 0 })
   first_some l =
