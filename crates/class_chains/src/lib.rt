@@ -11,7 +11,7 @@ use steps::limits::{MOST_DOSES, MOST_INTERVALS, MOST_MARKS};
 use steps::{less, smaller};
 
 // What a search pushed along a chain, and the stations seen on the way.
-#[derive(Drop)]
+#[derive(Clone, Copy)]
 pub struct Push {
     pub amount: u64,
     pub seen: [bool; MOST_MARKS],

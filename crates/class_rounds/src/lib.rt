@@ -156,7 +156,7 @@ fn try_candidate(
 }
 
 // The next class: its doses, W and P, and the fans that it reserves.
-#[derive(Drop)]
+#[derive(Clone, Copy)]
 pub struct Class {
     pub members: [bool; MOST_DOSES],
     pub weight: u64,

@@ -205,7 +205,7 @@ fn phases(
 }
 
 // What refusal 9 answers: whether the first class is above the top rate, and if so the class as a set, its W and P.
-#[derive(Drop)]
+#[derive(Clone, Copy)]
 pub struct TooFast {
     pub above: bool,
     pub set: u64,

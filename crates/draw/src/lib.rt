@@ -38,14 +38,14 @@ enum Kept {
 }
 
 // "A point is an amount together with one of four states"
-#[derive(Drop)]
+#[derive(Clone, Copy)]
 pub struct Point {
     pub amount: u32,
     pub state: State,
 }
 
 // The number and place, refusal 9's set, W and P, and the point: "Fields not meant are 0, and a state not meant is Shut."
-#[derive(Drop)]
+#[derive(Clone, Copy)]
 pub struct Drawn {
     pub number: u32,
     pub place: usize,
@@ -63,7 +63,7 @@ pub struct Pen {
 }
 
 // What a pen draws, and its tick behind it.
-#[derive(Drop)]
+#[derive(Clone, Copy)]
 pub struct Moved {
     pub tick: u32,
     pub drawn: Drawn,

@@ -26,7 +26,7 @@ struct Found {
 }
 
 // What judging answers: the plan stands; the order's refusal 2 to 8 with its place; 9 with the first class as a set, its W and P; 10.
-#[derive(Drop)]
+#[derive(Clone, Copy)]
 pub enum Judged {
     Stands,
     Refused { number: u32, place: usize },

@@ -18,14 +18,14 @@ use record::record_at;
 use records::{Dose, Fans};
 use steps::limits::{MOST_DOSES, ORDER_ROOM, VALVE_REST};
 
-#[derive(Drop)]
+#[derive(Clone, Copy)]
 pub struct Refusal {
     pub number: u32,
     pub place: usize,
 }
 
 // "Each check hands back either the record's fields or a refusal number and place."
-#[derive(Drop)]
+#[derive(Clone, Copy)]
 pub enum Entry {
     Fans(Fans),
     Dose(Dose),
@@ -47,7 +47,7 @@ pub struct Order {
 }
 
 // The order with number 0; or the refusal's number and place, and an order of zeros.
-#[derive(Drop)]
+#[derive(Clone, Copy)]
 pub struct Reading {
     pub number: u32,
     pub place: usize,

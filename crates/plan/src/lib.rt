@@ -18,7 +18,7 @@ use steps::limits::{CELLS, LAST_OPEN_BAY, MOST_DOSES, MOST_INTERVALS, PLAN_ROOM}
 
 // "0 done", or a refusal's number and place; of 9 the first class as a number with bit i for dose i, its W and P; and the classes and
 // slots written. "Fields not meant are 0".
-#[derive(Drop)]
+#[derive(Clone, Copy)]
 pub struct Planned {
     pub number: u32,
     pub place: usize,

@@ -11,7 +11,7 @@ use steps::limits::ORDER_NUMBERS;
 use steps::{excess, index};
 
 // Orders accepted, orders refused by number, grams accepted, fan-seconds and the greatest first class.
-#[derive(Drop)]
+#[derive(Clone, Copy)]
 pub struct Season {
     pub accepted: u32,
     pub refused: [u32; ORDER_NUMBERS],

@@ -17,7 +17,7 @@ use records::{FANS_KIND, RECORD_SIZE, kind_at, record_count};
 use steps::limits::{ORDER_NUMBERS, STREAM_ROOM};
 
 // 16, or 0 and the season's figures. "Fields not meant are 0".
-#[derive(Drop)]
+#[derive(Clone, Copy)]
 pub struct AddedUp {
     pub number: u32,
     pub place: usize,

@@ -13,14 +13,14 @@ use order::{Order, read_order};
 use steps::limits::{CELLS, MOST_BAY, MOST_DOSES, MOST_INTERVALS};
 
 // W and P of a class.
-#[derive(Drop)]
+#[derive(Clone, Copy)]
 pub struct Rate {
     pub weight: u32,
     pub time: u32,
 }
 
 // An order that is accepted, with its grams, its fan-seconds and its first class; or refused, with the number.
-#[derive(Drop)]
+#[derive(Clone, Copy)]
 pub enum Outcome {
     Accepted {
         grams: u64,
