@@ -1,5 +1,5 @@
-// The six entry points for C and Rust: numbers and byte slices only. Each hands on what the proved function answers; include/knellgable.h
-// says the promises in words.
+// The six entry points: numbers and byte slices only. Each hands on what the proved function answers; `knellgable_c` exports them for C and
+// Rust, and include/knellgable.h says the promises in words.
 #![tactic(auto)]
 
 ghost use Rattle.std.specs.Prelude.{◌≡◌};
@@ -14,7 +14,7 @@ use steps::limits::ORDER_NUMBERS;
 
 // What planning answers: "Fields not meant are 0".
 #[repr(C)]
-#[derive(Drop)]
+#[derive(Clone, Copy)]
 pub struct Planned {
     pub number: u32,
     pub place: usize,
@@ -27,7 +27,7 @@ pub struct Planned {
 
 // What judging answers: number and place, and of 9 the set, its W and P.
 #[repr(C)]
-#[derive(Drop)]
+#[derive(Clone, Copy)]
 pub struct Judged {
     pub number: u32,
     pub place: usize,
@@ -38,7 +38,7 @@ pub struct Judged {
 
 // What drawing answers: the same, and the point, its state as a number: 0 Finished, 1 Shut, 2 Idle, 3 Dosing with its fan.
 #[repr(C)]
-#[derive(Drop)]
+#[derive(Clone, Copy)]
 pub struct Drawn {
     pub number: u32,
     pub place: usize,
@@ -52,7 +52,7 @@ pub struct Drawn {
 
 // What laying a log answers: the same, and the figures: metered and risen in 1/1024 gram, and the seconds unknown.
 #[repr(C)]
-#[derive(Drop)]
+#[derive(Clone, Copy)]
 pub struct Laid {
     pub number: u32,
     pub place: usize,
@@ -67,7 +67,7 @@ pub struct Laid {
 // What adding up a stream answers: 0 or 16 and its place; orders accepted, orders refused by number, grams, fan-seconds, and the greatest first class's
 // W and P.
 #[repr(C)]
-#[derive(Drop)]
+#[derive(Clone, Copy)]
 pub struct AddedUp {
     pub number: u32,
     pub place: usize,
@@ -80,8 +80,7 @@ pub struct AddedUp {
 }
 
 // An order planned into a lent buffer.
-#[unsafe(no_mangle)]
-pub extern "C" fn knellgable_plan(order: &[u8], plan: &mut [u8]) -> Planned
+pub fn knellgable_plan(order: &[u8], plan: &mut [u8]) -> Planned
     ensures { Plans order.now plan.old (as_planned result) plan.new }
 {
     let p = plan::plan(order, plan);
@@ -120,8 +119,7 @@ fn verdict_of(j: judge::Judged) -> Judged
 }
 
 // Whether plan bytes stand for an order.
-#[unsafe(no_mangle)]
-pub extern "C" fn knellgable_judge(order: &[u8], plan: &[u8]) -> Judged
+pub fn knellgable_judge(order: &[u8], plan: &[u8]) -> Judged
     ensures { Judges order.now plan.now (as_judged result) }
 {
     let j = judge::judge(order, plan);
@@ -170,8 +168,7 @@ fn drawn_numbers(d: draw::Drawn) -> Drawn
 }
 
 // A dose's point at a tick.
-#[unsafe(no_mangle)]
-pub extern "C" fn knellgable_point(order: &[u8], plan: &[u8], dose: usize, tick: u32) -> Drawn
+pub fn knellgable_point(order: &[u8], plan: &[u8], dose: usize, tick: u32) -> Drawn
     ensures { DrawsNumbers order.now plan.now dose tick result }
 {
     let d = draw::point_at(order, plan, dose, tick);
@@ -179,8 +176,7 @@ pub extern "C" fn knellgable_point(order: &[u8], plan: &[u8], dose: usize, tick:
 }
 
 // The pen as a dose and a lent tick, moved on by one.
-#[unsafe(no_mangle)]
-pub extern "C" fn knellgable_advance(
+pub fn knellgable_advance(
     order: &[u8],
     plan: &[u8],
     dose: usize,
@@ -194,8 +190,7 @@ pub extern "C" fn knellgable_advance(
 }
 
 // A meter log laid beside a dose's line.
-#[unsafe(no_mangle)]
-pub extern "C" fn knellgable_log(order: &[u8], plan: &[u8], dose: usize, log: &[u8]) -> Laid
+pub fn knellgable_log(order: &[u8], plan: &[u8], dose: usize, log: &[u8]) -> Laid
     ensures { Lays order.now plan.now dose log.now (as_laid result) }
 {
     let l = log_beside::lay(order, plan, dose, log);
@@ -212,8 +207,7 @@ pub extern "C" fn knellgable_log(order: &[u8], plan: &[u8], dose: usize, log: &[
 }
 
 // A stream of orders added up.
-#[unsafe(no_mangle)]
-pub extern "C" fn knellgable_season(stream: &[u8]) -> AddedUp
+pub fn knellgable_season(stream: &[u8]) -> AddedUp
     ensures { AddsUp stream.now (as_added_up result) }
 {
     let a = season::add_up(stream);
