@@ -176,12 +176,7 @@ pub fn knellgable_point(order: &[u8], plan: &[u8], dose: usize, tick: u32) -> Dr
 }
 
 // The pen as a dose and a lent tick, moved on by one.
-pub fn knellgable_advance(
-    order: &[u8],
-    plan: &[u8],
-    dose: usize,
-    tick: &mut u32,
-) -> Drawn
+pub fn knellgable_advance(order: &[u8], plan: &[u8], dose: usize, tick: &mut u32) -> Drawn
     ensures { MovesNumbers order.now plan.now dose tick.old result tick.new }
 {
     let m = draw::move_on(order, plan, dose, *tick);
