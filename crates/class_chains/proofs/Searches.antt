@@ -90,6 +90,9 @@ pub record New (rooms holds : List ℕ) (s : List Bool) (x : List ℕ) (k : ℕ)
   pub inside : k < length s
   pub unseen : Unseen s k
 
+pub new_station : {rooms holds : List ℕ} {s : List Bool} {x : List ℕ} (k : ℕ) → Bounded rooms holds x → Unseen s k → k < length s → New rooms holds s x k
+new_station k bounded unseen inside = record { bounded = bounded; inside = inside; unseen = unseen }
+
 module _ {rooms holds : List ℕ} {s : List Bool} {x : List ℕ} {k : ℕ} (new : New rooms holds s x k) where
   mark_kept : Kept s x (set s k true) x
   mark_kept = kept_mark s x k new.inside new.unseen
@@ -106,10 +109,6 @@ module _ {rooms holds : List ℕ} {s : List Bool} {x : List ℕ} {k : ℕ} (new 
     tried_seen = tried.kept.more k mark_seen
 
 module _ {rooms holds : List ℕ} {least k want : ℕ} {s : List Bool} {x : List ℕ} where
-  -- too little is wanted, or the station was seen before
-  pushed_nothing : (least ≤ want → Seen s k) → Pushed rooms holds least k want s x 0 s x
-  pushed_nothing seen = record { within = omega arith; none = λ h. refl; kept = kept_refl s x; marks = seen; same = λ h. refl; exhausted = λ h. exhausted_none rooms holds least x s }
-
   -- something is pushed from a station that was not seen before
   pushed_some : {a : ℕ} {t : List Bool} {y : List ℕ} → Unseen s k → Kept s x t y → Seen t k → a ≤ want → 0 < a → Pushed rooms holds least k want s x a t y
   pushed_some new kept seen h some = record {
@@ -128,10 +127,6 @@ module _ {rooms holds : List ℕ} {least k want : ℕ} {s : List Bool} {x : List
 -- ---- the search from a dose
 
 module _ {rooms holds : List ℕ} {least d : ℕ} {s : List Bool} {x : List ℕ} (want : ℕ) (hd : d < most_doses) where
-  -- nothing is done: too little is wanted, or the dose was seen before
-  pub dose_stops : Bounded rooms holds x → (least ≤ want → Seen s d) → FromDose rooms holds least d want s x 0 s x
-  dose_stops bounded seen = record { pushed = pushed_nothing seen; up = dose_still d bounded refl }
-
   module _ (new : New rooms holds s x d) {t : List Bool} {y : List ℕ} {j : ℕ} (tried : DoseTried rooms holds least d (set s d true) x t y j) where
     -- every interval was tried
     pub dose_fails : most_intervals ≤ j → FromDose rooms holds least d want s x 0 t y
@@ -161,10 +156,6 @@ module _ {rooms holds : List ℕ} {least d : ℕ} {s : List Bool} {x : List ℕ}
 -- ---- the search from an interval
 
 module _ {rooms holds : List ℕ} {least j : ℕ} {s : List Bool} {x : List ℕ} (want : ℕ) (hj : j < most_intervals) where
-  -- nothing is done: too little is wanted, or the interval was seen before
-  pub interval_stops : Bounded rooms holds x → (least ≤ want → Seen s (most_doses + j)) → FromInterval rooms holds least j want s x 0 s x
-  interval_stops bounded seen = record { pushed = pushed_nothing seen; down = interval_none j hj bounded refl }
-
   module _ (new : New rooms holds s x (most_doses + j)) where
     module _ {held spare : ℕ} (total : held ≡ given x j) (left : spare ≡ get_or holds j 0 - held) where
       -- the interval has spare time

@@ -28,6 +28,22 @@ pub record WorkedOut (h : OrderHeld) (numbers : List ℕ) (i : ℕ) (fans : List
   pub weighed : w ≡ weight h.doses (λ k. get_or h.grams k 0) (set_of set)
   pub timed : p ≡ sum h.intervals (λ j. len_of h.instants j * get_or open-fans j 0)
 
+pub worked_out : (h : OrderHeld) (numbers : List ℕ) {i : ℕ} {fans : List ℕ} {set : List Bool} {open-fans : List ℕ} {size w p : ℕ}
+    → h.doses ≤ most_doses → h.intervals ≤ most_intervals → Frees (setting_in h) (fans_held h) (sets_of numbers) i fans
+    → ((k : ℕ) → k < most_doses → get_or set k false ≡ sets_of numbers i k) → Opens h.release h.deadline h.instants h.doses h.intervals set fans open-fans
+    → size ≡ weight h.doses (λ k. 1) (set_of set) → w ≡ weight h.doses (λ k. get_or h.grams k 0) (set_of set)
+    → p ≡ sum h.intervals (λ j. len_of h.instants j * get_or open-fans j 0) → WorkedOut h numbers i fans set open-fans size w p
+worked_out h numbers few-doses few-intervals left marked opened counted weighed timed = record {
+  few_doses = few-doses;
+  few_intervals = few-intervals;
+  left = left;
+  marked = marked;
+  opened = opened;
+  counted = counted;
+  weighed = weighed;
+  timed = timed;
+}
+
 module _ {h : OrderHeld} {numbers : List ℕ} {i : ℕ} {fans : List ℕ} {set : List Bool} {open-fans : List ℕ} {size w p : ℕ}
     (out : WorkedOut h numbers i fans set open-fans size w p) where
   abbrev S : Setting

@@ -126,6 +126,7 @@ pub fn knellgable_judge(order: &[u8], plan: &[u8]) -> Judged
     verdict_of(j)
 }
 
+#[tactic(auto, unfolding(crate::specs::Exported::state_number, draw::specs::Drawing::as_state))]
 fn state_number(s: State) -> u32
     ensures { result ≡ state_number (as_state s) }
 {
@@ -137,6 +138,7 @@ fn state_number(s: State) -> u32
     }
 }
 
+#[tactic(auto, unfolding(crate::specs::Exported::state_fan, draw::specs::Drawing::as_state))]
 fn state_fan(s: State) -> u32
     ensures { result ≡ state_fan (as_state s) }
 {

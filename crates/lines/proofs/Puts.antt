@@ -120,9 +120,6 @@ module _ (vs b₀ : List ℕ) (at : ℕ) where
   pub word_more : {b : List ℕ} (i : ℕ) → i < length vs → Put (take i vs) b₀ at b (at + i) → Put (take (i + 1) vs) b₀ at (set b (at + i) (get_or vs i 0)) (at + (i + 1))
   word_more {b} i h p = rw (add-one, take-suc vs i 0 h, add-suc, ← add-one) (put_more p (put_one b (at + i) (get_or vs i 0)))
 
-  pub word_all : {b : List ℕ} (i : ℕ) → i ≤ length vs → length vs ≤ i → Put (take i vs) b₀ at b (at + i) → Put vs b₀ at b (at + i)
-  word_all i g h p = rw (take_all i vs h) at p
-
 -- ---- lines in a row
 
 module _ (line : ℕ → List ℕ) where

@@ -1,5 +1,5 @@
 -- Laws of the printer: a plan's records and their text have room, and what stands in the text buffer is the answer's text. Assumes nothing.
-use mathlib.Core.Path.{◌≡◌, ap, ◌∙◌, subst}
+use mathlib.Core.Path.{◌≡◌}
 use mathlib.Core.Bool.{Bool, true, false}
 use mathlib.Core.List.{List}
 use Prim.Native.Nat.{ℕ, ◌+◌, ◌*◌, ◌≤◌}
@@ -8,15 +8,13 @@ use Rattle.model.specs.Limits.{last_open_bay, plan_room}
 use Rattle.model.specs.Records.{record_size, pick}
 use lib.Dec.{eqb}
 use lib.ListN.{length, take}
-use Rattle.std.proofs.Common.{Option, None, Some, IfSome, pos}
-use Rattle.std.specs.Io.KnownBytes.{Appends}
 use Rattle.model.specs.Answers.{Planned, Plans, no_room, refuses, plans}
 use Rattle.model.proofs.Orders.{read_fits}
 use Rattle.model.proofs.Planner.{plan_length, plan_room_lem}
 use Rattle.lines.specs.Text.{Put, plan_text, refused_text}
 use Rattle.lines.proofs.Puts.{put_front, put_length}
 use Rattle.lines.proofs.Records.{plan_text_length, refused_length}
-use Rattle.printer.specs.Prints.{Answers, Prints, answer_text}
+use Rattle.printer.specs.Prints.{Prints, SaysOrder, answer_text}
 
 -- "plan buffer under 47,392 bytes (24 classes and 1,457 slots)": no plan has more records
 pub few_records : {order before after : List ℕ} {r : Planned} → Plans order before r after → record_size * (r.classes + r.slots) ≤ plan_room
@@ -45,24 +43,15 @@ prints {after = after} {r = r} h room p e = record {
   told = e;
 }
 
--- the text that was put, written behind what an output held
-answers : {order before after text text' : List ℕ} {planned : Bool} {end : ℕ} (held held' : Option (List ℕ)) → length before ≡ plan_room
-    → Prints order before after text text' planned end → Appends held held' (take end text') → Answers order held held' (pos (pick planned 0 1))
-answers {before = before} {after = after} held held' room h w = record {
+-- the text that was put is what the answer says
+pub says : {order before after text text' : List ℕ} {planned : Bool} {end : ℕ} → length before ≡ plan_room
+    → Prints order before after text text' planned end → SaysOrder order (take end text') planned
+says {before = before} {after = after} room h = record {
   before = before;
   room = room;
   after = after;
   answer = h.answer;
   plans = h.plans;
-  written = subst (Appends held held') (put_front h.put h.inside) w;
-  told = ap (λ b. pos (pick b 0 1)) h.told;
+  is = put_front h.put h.inside;
+  told = h.told;
 }
-
--- and the order is what was read of an input whose bytes are known
-pub answered : (given held held' : Option (List ℕ)) {order before after text text' : List ℕ} {planned told : Bool} {end n : ℕ}
-    → n ≡ 1601 → IfSome given (λ xs. order ≡ take n xs) → length before ≡ plan_room → Prints order before after text text' planned end
-    → Appends held held' (take end text') → planned ≡ told → IfSome given (λ bytes. Answers (take 1601 bytes) held held' (pos (pick told 0 1)))
-answered None held held' size read room h w e = tt
-answered (Some bytes) held held' {planned = planned} size read room h w e =
-    subst (λ b. Answers (take 1601 bytes) held held' (pos (pick b 0 1))) e
-    (subst (λ o. Answers o held held' (pos (pick planned 0 1))) (read ∙ ap (λ k. take k bytes) size) (answers held held' room h w))

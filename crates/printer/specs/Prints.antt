@@ -1,10 +1,10 @@
--- What the printer's text says of an order.
-use Rattle.std.specs.Prelude.{◌≡◌, ◌≢◌, Bool, IfSome, List, ℕ, ℤ, ◌≤◌, eqb, length, pos, take}
-use Rattle.std.specs.Io.KnownBytes.{Appends}
+-- What the printer's text says of an order (document 01, "The plan printer").
+use Rattle.std.specs.Prelude.{◌≡◌, Bool, List, ℕ, ℤ, ◌+◌, ◌≤◌, eqb, length}
 use Rattle.std.specs.declared.option.Option.{Option}
-use Rattle.model.specs.Limits.{plan_room}
+use Rattle.model.specs.Limits.{order_room, plan_room}
 use Rattle.model.specs.Records.{pick}
 use Rattle.model.specs.Answers.{Planned, Plans}
+use Rattle.programs.specs.Answers.{AnswersInput}
 use Rattle.lines.specs.Text.{Put, plan_text, refused_text}
 
 -- a refusal's line, or the lines of the plan in its buffer
@@ -21,17 +21,16 @@ pub record Prints (order before after text text' : List ℕ) (planned : Bool) (e
   pub inside : end ≤ length text'
   pub told : planned ≡ eqb answer.answer.number 0
 
--- the text of the answer to an order, planned into a buffer with room for every plan, stands behind what the output held, and the status says
--- whether the order was planned
-pub record Answers (order : List ℕ) (held held' : Option (List ℕ)) (status : ℤ) : Type 0 where
+-- the text of the answer to an order, planned into a buffer with room for every plan, and whether it was planned
+pub record SaysOrder (order text : List ℕ) (planned : Bool) : Type 0 where
   pub before : List ℕ
   pub room : length before ≡ plan_room
   pub after : List ℕ
   pub answer : Planned
   pub plans : Plans order before answer after
-  pub written : Appends held held' (answer_text answer after)
-  pub told : status ≡ pos (pick (eqb answer.answer.number 0) 0 1)
+  pub is : text ≡ answer_text answer after
+  pub told : planned ≡ eqb answer.answer.number 0
 
--- where the input's bytes are known: any status but 2 says that the first 1,601 of them, or all, are the order that is answered
+-- "Reads up to 1,601 bytes of order": one more than the longest, which is seen to be too long
 abbrev pub AnswersOrder : Option (List ℕ) → Option (List ℕ) → Option (List ℕ) → ℤ → Type 0
-AnswersOrder given held held' status = status ≢ pos 2 → IfSome given (λ bytes. Answers (take 1601 bytes) held held' status)
+AnswersOrder = AnswersInput (order_room + 1) SaysOrder

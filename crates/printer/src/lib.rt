@@ -1,5 +1,5 @@
-// Reads up to 1,601 bytes of order from an input, plans it and prints the plan or the refusal. The program `printer_program` gives it the
-// standard streams, and ends with the status that it answers.
+// "Reads up to 1,601 bytes of order" from an input, plans it and prints the plan or the refusal (document 01, "The plan printer"). The program
+// `printer_program` gives it the standard streams, and ends with the status that it answers.
 #![tactic(auto)]
 
 ghost use Rattle.std.specs.Prelude.{◌≡◌, ◌+◌, ◌*◌, ◌≤◌, length};

@@ -1,9 +1,10 @@
--- What the program's text says of a stream.
-use Rattle.std.specs.Prelude.{◌≡◌, ◌≢◌, Bool, IfSome, List, ℕ, ℤ, ◌≤◌, eqb, length, pos, take}
-use Rattle.std.specs.Io.KnownBytes.{Appends}
+-- What the program's text says of a stream (document 02, C-15).
+use Rattle.std.specs.Prelude.{◌≡◌, Bool, List, ℕ, ℤ, ◌+◌, ◌≤◌, eqb, length}
 use Rattle.std.specs.declared.option.Option.{Option}
+use Rattle.model.specs.Limits.{stream_room}
 use Rattle.model.specs.Records.{pick}
 use Rattle.model.specs.Season.{AddedUp, AddsUp}
+use Rattle.programs.specs.Answers.{AnswersInput}
 use Rattle.lines.specs.Text.{Put, refused_text, season_text}
 
 -- the bytes of the text buffer
@@ -25,13 +26,13 @@ pub record PrintsSeason (stream text text' : List ℕ) (added : Bool) (end : ℕ
   pub inside : end ≤ length text'
   pub told : added ≡ eqb answer.answer.number 0
 
--- the text of what a stream comes to stands behind what the output held, and the status says whether the stream was added up
-pub record Answers (stream : List ℕ) (held held' : Option (List ℕ)) (status : ℤ) : Type 0 where
+-- the text of what a stream comes to, and whether it was added up
+pub record SaysStream (stream text : List ℕ) (added : Bool) : Type 0 where
   pub answer : AddedUp
   pub adds : AddsUp stream answer
-  pub written : Appends held held' (added_text answer)
-  pub told : status ≡ pos (pick (eqb answer.answer.number 0) 0 1)
+  pub is : text ≡ added_text answer
+  pub told : added ≡ eqb answer.answer.number 0
 
--- where the input's bytes are known: any status but 2 says that the first 65,537 of them, or all, are the stream that is answered
+-- one byte more than the longest stream is read, which is seen to be too long
 abbrev pub AnswersStream : Option (List ℕ) → Option (List ℕ) → Option (List ℕ) → ℤ → Type 0
-AnswersStream given held held' status = status ≢ pos 2 → IfSome given (λ bytes. Answers (take 65537 bytes) held held' status)
+AnswersStream = AnswersInput (stream_room + 1) SaysStream

@@ -1,5 +1,5 @@
-// Reads up to 65,537 bytes of a stream of orders from an input, adds it up and prints the season's figures or the refusal. The program
-// `season_program` gives it the standard streams, and ends with the status that it answers.
+// Reads up to 65,537 bytes of a stream of orders from an input, adds it up and prints the season's figures or the refusal (document 02, C-15). The
+// program `season_program` gives it the standard streams, and ends with the status that it answers.
 #![tactic(auto)]
 
 ghost use Rattle.std.specs.Prelude.{◌≡◌, ◌≤◌, length};

@@ -3,7 +3,7 @@
 use Rattle.std.proofs.Common.{◌≡◌, ◌+◌, length, arith, rules}
 use Rattle.model.specs.Limits.{most_doses, most_marks}
 use Rattle.class_chains.proofs.Laws.{falls_to, sized_now, bounded_same}
-use Rattle.class_chains.proofs.Searches.{New, tried_none, share_same, tried_up_to, tried_next, tried_in_vain}
+use Rattle.class_chains.proofs.Searches.{new_station, tried_none, share_same, tried_up_to, tried_next, tried_in_vain}
 use Rattle.class_chains.proofs.Searches.{dose_fails, dose_fits_lem, dose_pushes, interval_spares, interval_fails, interval_has, interval_pushes}
 use Rattle.class_chains.proofs.+from_dose_from_interval.Goals as goal
 
@@ -29,28 +29,25 @@ from_dose-loop-j-preserved-then-marks-j t c = tried_next c.loop-j.invariant c.lo
 pub from_dose-from_interval-p-requires : goal.from_dose-from_interval-p-requires
 from_dose-from_interval-p-requires t c =
     let tried = c.loop-j.invariant in
-    let new : New c.args.rooms.now c.args.holds.now c.args.seen c.args.shares.now c.args.d =
-    record { bounded = c.requires.1; inside = search rules; unseen = c.if-seen-d.false } in (
+    let new = new_station c.args.d c.requires.1 c.if-seen-d.false (search rules) in (
       falls_to _ _ t new.inside new.unseen c.decreases tried.kept,
       (sized_now c.requires.0 tried.shares, bounded_same new.bounded tried.same, c.loop-j-test.true, c.requires.3),
     )
 
 pub from_dose-overflow_add-shares : goal.from_dose-overflow_add-shares
 from_dose-overflow_add-shares t c =
-    let A = c.args in
-    let new : New A.rooms.now A.holds.now A.seen A.shares.now A.d = record { bounded = c.requires.1; inside = search rules; unseen = c.if-seen-d.false } in
+    let new = new_station c.args.d c.requires.1 c.if-seen-d.false (search rules) in
     omega (
       arith,
-      dose_fits_lem A.want c.requires.2 new c.loop-j.invariant c.loop-j-test.true c.less-room.ensures c.smaller-w.ensures c.from_interval-p.ensures
+      dose_fits_lem c.args.want c.requires.2 new c.loop-j.invariant c.loop-j-test.true c.less-room.ensures c.smaller-w.ensures c.from_interval-p.ensures
           c.if-a-gt0.true,
     )
 
 -- the interval found something, which the dose takes
 pub from_dose-returns-then-a-gt0 : goal.from_dose-returns-then-a-gt0
 from_dose-returns-then-a-gt0 t c =
-    let A = c.args in
-    let new : New A.rooms.now A.holds.now A.seen A.shares.now A.d = record { bounded = c.requires.1; inside = search rules; unseen = c.if-seen-d.false } in
-    dose_pushes A.want c.requires.2 new c.loop-j.invariant c.loop-j-test.true c.less-room.ensures c.smaller-w.ensures c.from_interval-p.ensures
+    let new = new_station c.args.d c.requires.1 c.if-seen-d.false (search rules) in
+    dose_pushes c.args.want c.requires.2 new c.loop-j.invariant c.loop-j-test.true c.less-room.ensures c.smaller-w.ensures c.from_interval-p.ensures
     c.if-a-gt0.true (omega arith)
 
 -- the interval found nothing
@@ -64,8 +61,7 @@ from_dose-loop-j-preserved t c =
 
 pub from_dose-returns : goal.from_dose-returns
 from_dose-returns t c =
-    let A = c.args in
-    let new : New A.rooms.now A.holds.now A.seen A.shares.now A.d = record { bounded = c.requires.1; inside = search rules; unseen = c.if-seen-d.false } in
+    let new = new_station c.args.d c.requires.1 c.if-seen-d.false (search rules) in
     dose_fails _ c.requires.2 new c.loop-j.invariant c.loop-j-test.false
 
 -- ---- from an interval
@@ -73,9 +69,7 @@ from_dose-returns t c =
 -- the interval has spare time
 pub from_interval-returns-then-least-spare : goal.from_interval-returns-then-least-spare
 from_interval-returns-then-least-spare t c =
-    let A = c.args in
-    let new : New A.rooms.now A.holds.now A.seen A.shares.now (most_doses + A.j) =
-    record { bounded = c.requires.1; inside = search rules; unseen = c.if-seen-j.false } in
+    let new = new_station (most_doses + c.args.j) c.requires.1 c.if-seen-j.false (search rules) in
     interval_spares _ c.requires.2 new c.interval_total.ensures c.less-spare.ensures c.smaller.ensures (omega (arith, c.smaller.ensures))
 
 pub from_interval-loop-d-init : goal.from_interval-loop-d-init
@@ -95,26 +89,21 @@ from_interval-loop-d-preserved-then-marks-d t c = tried_next c.loop-d.invariant 
 pub from_interval-from_dose-p-requires : goal.from_interval-from_dose-p-requires
 from_interval-from_dose-p-requires t c =
     let tried = c.loop-d.invariant in
-    let new : New c.args.rooms.now c.args.holds.now c.args.seen c.args.shares.now (most_doses + c.args.j) =
-    record { bounded = c.requires.1; inside = search rules; unseen = c.if-seen-j.false } in (
+    let new = new_station (most_doses + c.args.j) c.requires.1 c.if-seen-j.false (search rules) in (
       falls_to _ _ t new.inside new.unseen c.decreases tried.kept,
       (sized_now c.requires.0 tried.shares, bounded_same new.bounded tried.same, c.loop-d-test.true, c.requires.3),
     )
 
 pub from_interval-overflow_sub-shares : goal.from_interval-overflow_sub-shares
 from_interval-overflow_sub-shares t c =
-    let A = c.args in
-    let new : New A.rooms.now A.holds.now A.seen A.shares.now (most_doses + A.j) =
-    record { bounded = c.requires.1; inside = search rules; unseen = c.if-seen-j.false } in
-    omega (arith, interval_has A.want c.requires.2 new c.loop-d.invariant c.loop-d-test.true c.smaller-w.ensures c.from_dose-p.ensures)
+    let new = new_station (most_doses + c.args.j) c.requires.1 c.if-seen-j.false (search rules) in
+    omega (arith, interval_has c.args.want c.requires.2 new c.loop-d.invariant c.loop-d-test.true c.smaller-w.ensures c.from_dose-p.ensures)
 
 -- the dose found something elsewhere, and gives it back here
 pub from_interval-returns-then-a-gt0 : goal.from_interval-returns-then-a-gt0
 from_interval-returns-then-a-gt0 t c =
-    let A = c.args in
-    let new : New A.rooms.now A.holds.now A.seen A.shares.now (most_doses + A.j) =
-    record { bounded = c.requires.1; inside = search rules; unseen = c.if-seen-j.false } in
-    interval_pushes A.want c.requires.2 new c.loop-d.invariant c.loop-d-test.true c.smaller-w.ensures c.from_dose-p.ensures c.if-a-gt0.true (omega arith)
+    let new = new_station (most_doses + c.args.j) c.requires.1 c.if-seen-j.false (search rules) in
+    interval_pushes c.args.want c.requires.2 new c.loop-d.invariant c.loop-d-test.true c.smaller-w.ensures c.from_dose-p.ensures c.if-a-gt0.true (omega arith)
 
 -- the dose found nothing elsewhere
 pub from_interval-loop-d-preserved : goal.from_interval-loop-d-preserved
@@ -126,7 +115,5 @@ from_interval-loop-d-preserved t c =
 
 pub from_interval-returns : goal.from_interval-returns
 from_interval-returns t c =
-    let A = c.args in
-    let new : New A.rooms.now A.holds.now A.seen A.shares.now (most_doses + A.j) =
-    record { bounded = c.requires.1; inside = search rules; unseen = c.if-seen-j.false } in
+    let new = new_station (most_doses + c.args.j) c.requires.1 c.if-seen-j.false (search rules) in
     interval_fails _ c.requires.2 new c.interval_total.ensures c.less-spare.ensures c.if-least-spare.false c.loop-d.invariant c.loop-d-test.false

@@ -6,7 +6,7 @@ use Rattle.model.specs.Limits.{most_intervals}
 use Rattle.measure.proofs.Free.{frees_all}
 use Rattle.judge_clauses.specs.Tests.{order_held}
 use Rattle.judge_clauses.proofs.Tell.{tells_not, tells_off, tells_on, tells_was}
-use Rattle.judge_rates.proofs.Fitting.{WorkedOut, frees_after, says_fits}
+use Rattle.judge_rates.proofs.Fitting.{frees_after, says_fits, worked_out}
 use Rattle.judge_rates.proofs.classes_fit.Goals as goal
 
 pub loop-i-init : goal.loop-i-init
@@ -22,36 +22,18 @@ fan_time-time-requires c = (omega arith, c.open_fans-row.ensures.small)
 pub returns-then-not-says : goal.returns-then-not-says
 returns-then-not-says c =
     let A = c.args in
-    let out : WorkedOut (order_held A.doses A.intervals A.fans A.release.now A.deadline.now A.grams.now A.instants.now) A.numbers.now c.loop-i.i
-    c.loop-i.free c.set_of-set.result c.open_fans-row.result c.size_of-size.result c.weight_of-w.result c.fan_time-time.result =
-    record {
-      few_doses = c.requires.2;
-      few_intervals = c.requires.3;
-      left = c.loop-i.invariant.1;
-      marked = c.set_of-set.ensures;
-      opened = c.open_fans-row.ensures;
-      counted = c.size_of-size.ensures.0;
-      weighed = c.weight_of-w.ensures;
-      timed = c.fan_time-time.ensures;
-    } in
+    let held = order_held A.doses A.intervals A.fans A.release.now A.deadline.now A.grams.now A.instants.now in
+    let out = worked_out held A.numbers.now c.requires.2 c.requires.3 c.loop-i.invariant.1 c.set_of-set.ensures c.open_fans-row.ensures
+    c.size_of-size.ensures.0 c.weight_of-w.ensures c.fan_time-time.ensures in
     let fits = says_fits out _ c.says.ensures in
     tells_off (λ all. tells_not fits c.if-not-says.true (rw c.class_at-c.ensures (all c.loop-i.i c.loop-i-test.true)))
 
 pub loop-i-preserved : goal.loop-i-preserved
 loop-i-preserved c =
     let A = c.args in
-    let out : WorkedOut (order_held A.doses A.intervals A.fans A.release.now A.deadline.now A.grams.now A.instants.now) A.numbers.now c.loop-i.i
-    c.loop-i.free c.set_of-set.result c.open_fans-row.result c.size_of-size.result c.weight_of-w.result c.fan_time-time.result =
-    record {
-      few_doses = c.requires.2;
-      few_intervals = c.requires.3;
-      left = c.loop-i.invariant.1;
-      marked = c.set_of-set.ensures;
-      opened = c.open_fans-row.ensures;
-      counted = c.size_of-size.ensures.0;
-      weighed = c.weight_of-w.ensures;
-      timed = c.fan_time-time.ensures;
-    } in
+    let held = order_held A.doses A.intervals A.fans A.release.now A.deadline.now A.grams.now A.instants.now in
+    let out = worked_out held A.numbers.now c.requires.2 c.requires.3 c.loop-i.invariant.1 c.set_of-set.ensures c.open_fans-row.ensures
+    c.size_of-size.ensures.0 c.weight_of-w.ensures c.fan_time-time.ensures in
     let fits = says_fits out _ c.says.ensures in (
       omega (arith, c.loop-i-test.true),
       frees_after out _ c.free_after-next.ensures,
