@@ -268,16 +268,18 @@ fn from_byte(x: u8) -> usize
     x as usize
 }
 
-// Dose k of an order.
-fn dose_at(o: Order, k: usize) -> Dose
-    requires { k < most_doses }
-    ensures { as_dose result ≡ dose_held o k }
-{
-    Dose {
-        bay: o.bay[k],
-        release: o.release[k],
-        deadline: o.deadline[k],
-        grams: o.grams[k],
+impl Order {
+    // Dose k of an order.
+    pub fn dose(&self, k: usize) -> Dose
+        requires { k < most_doses }
+        ensures { as_dose result ≡ dose_held self.now k }
+    {
+        Dose {
+            bay: self.bay[k],
+            release: self.release[k],
+            deadline: self.deadline[k],
+            grams: self.grams[k],
+        }
     }
 }
 
@@ -306,10 +308,10 @@ fn earlier_clash(rest: u32, o: Order, k: usize) -> usize
     requires { k < most_doses }
     ensures { result ≡ earlier_clash rest o k }
 {
-    let d = dose_at(o, k);
+    let d = o.dose(k);
     let mut j = 0;
     while j < k {
-        let e = dose_at(o, j);
+        let e = o.dose(j);
         if dose_clash(rest, d, e) {
             return j;
         }

@@ -18,16 +18,16 @@ of-arrays rest o k j {b} {d} {e} p q h =
     sym (h ∙ ap (λ (x : orders.Dose). clash rest x e) p ∙ ap (λ (x : orders.Dose). clash rest (dose_held o k) x) q)
 
 pub loop-j-init : goal.loop-j-init
-loop-j-init c = (c.dose_at-d.ensures, omega arith, rw sub-zero)
+loop-j-init c = (c.dose-d.ensures, omega arith, rw sub-zero)
 
-pub dose_at-e-requires : goal.dose_at-e-requires
-dose_at-e-requires c = omega arith
+pub dose-e-requires : goal.dose-e-requires
+dose-e-requires c = omega arith
 
 pub returns-then-dose_clash : goal.returns-then-dose_clash
 returns-then-dose_clash c =
     let A = c.args in
     let L = c.loop-j in
-    let e = of-arrays A.rest A.o A.k L.j L.invariant.0 c.dose_at-e.ensures c.dose_clash.ensures in
+    let e = of-arrays A.rest A.o A.k L.j L.invariant.0 c.dose-e.ensures c.dose_clash.ensures in
     sym (first_stop (doses_clash A.rest A.o A.k) L.j (A.k - L.j) (omega arith) (e ∙ c.if-dose_clash.true)) ∙ L.invariant.2
 
 pub overflow_add-j : goal.overflow_add-j
@@ -40,7 +40,7 @@ pub loop-j-preserved : goal.loop-j-preserved
 loop-j-preserved c =
     let A = c.args in
     let L = c.loop-j in
-    let e = of-arrays A.rest A.o A.k L.j L.invariant.0 c.dose_at-e.ensures c.dose_clash.ensures in
+    let e = of-arrays A.rest A.o A.k L.j L.invariant.0 c.dose-e.ensures c.dose_clash.ensures in
     let less : A.k - (L.j + 1) ≡ A.k - L.j - 1 = omega arith in
     (L.invariant.0, omega arith, rw less (sym (first_on (doses_clash A.rest A.o A.k) L.j (A.k - L.j) (omega arith) (e ∙ c.if-dose_clash.false)) ∙ L.invariant.2))
 
