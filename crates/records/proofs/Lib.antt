@@ -1,3 +1,4 @@
 pub mod Laws
+pub mod Told
 pub mod Records
 pub mod OneAnswer

@@ -1,13 +1,10 @@
 -- Record k of some bytes, as code hands it on: the part of them from 32 × k on. Assumes nothing.
-use mathlib.Core.Bool.{Bool, ◌&&◌}
 use mathlib.Core.Path.{◌≡◌, ap, ◌∙◌}
 use mathlib.Core.List.{List}
 use Prim.Native.Nat.{ℕ, ◌+◌, ◌*◌, ◌-◌, ◌≤◌}
 use native.Mathlib.Omega.{arith}
-use lib.Dec.{eqb}
 use lib.ListN.{length, take, drop, length-take, length-drop}
-use Rattle.model.specs.Records.{record_size, Part, blank_at, record_at}
-use Rattle.records.specs.Plan.{kind_at}
+use Rattle.model.specs.Records.{record_size, record_at}
 
 abbrev pub part_at : List ℕ → ℕ → List ℕ
 part_at bytes k = take (record_size * k + record_size - record_size * k) (drop (record_size * k) bytes)
@@ -21,8 +18,3 @@ part_length bytes k h = simp (length-take, length-drop) (omega arith)
 -- what is read of the part lent is read of record k
 pub read_part : {A : Type 0} (read : List ℕ → A) (bytes : List ℕ) (k : ℕ) {x : A} → x ≡ read (part_at bytes k) → x ≡ read (record_at bytes k)
 read_part read bytes k e = e ∙ ap read (record_part bytes k)
-
--- record i is of a kind, and the bytes that must be zero are
-pub of_kind : (parts : List Part) (kind : ℕ) (bytes : List ℕ) (i : ℕ) {k : ℕ} {zeros t : Bool} → t ≡ (eqb k kind && zeros) → k ≡ kind_at bytes i
-    → zeros ≡ blank_at parts (part_at bytes i) 0 → t ≡ (eqb (kind_at bytes i) kind && blank_at parts (record_at bytes i) 0)
-of_kind parts kind bytes i e q z = rw (e, q, z, record_part bytes i)

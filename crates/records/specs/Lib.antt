@@ -1,3 +1,4 @@
 pub mod Written
 pub mod Held
 pub mod Plan
+pub mod Kinds

@@ -5,9 +5,8 @@ ghost use Rattle.model.specs.Orders.{fans_of, dose_of};
 ghost use Rattle.records.specs.Written.{written};
 ghost use Rattle.records.specs.Held.{as_fans, as_dose, fans_bytes, dose_bytes};
 
-use crate::number::{blank, put_blank, put_pair, put8, put16, put32, read8, read16, read32};
-use crate::{DOSE_KIND, FANS_KIND};
-use steps::both;
+use crate::kind::{Kind, put_kind};
+use crate::number::{blank, put, put_blank, put_pair, read};
 
 // "F (0x46) fans: 1 number of fans, 1 to 8; 4-7 top grams, 8-11 top seconds, each 1 to 1,000,000"; "Byte 2 of F .. names the rule", 0 or 1
 #[derive(Clone, Copy)]
@@ -33,10 +32,10 @@ pub fn fans_in(r: &[u8]) -> Fans
     ensures { as_fans result ≡ fans_of r.now }
 {
     Fans {
-        fans: read8(r, 1),
-        rule: read8(r, 2),
-        top_grams: read32(r, 4),
-        top_seconds: read32(r, 8),
+        fans: read::<1>(r, 1),
+        rule: read::<1>(r, 2),
+        top_grams: read::<4>(r, 4),
+        top_seconds: read::<4>(r, 8),
     }
 }
 
@@ -46,10 +45,10 @@ pub fn dose_in(r: &[u8]) -> Dose
     ensures { as_dose result ≡ dose_of r.now }
 {
     Dose {
-        bay: read16(r, 2),
-        release: read32(r, 4),
-        deadline: read32(r, 8),
-        grams: read32(r, 12),
+        bay: read::<2>(r, 2),
+        release: read::<4>(r, 4),
+        deadline: read::<4>(r, 8),
+        grams: read::<4>(r, 12),
     }
 }
 
@@ -58,7 +57,7 @@ pub fn fans_blank(r: &[u8]) -> bool
     requires { length r.now ≡ record_size }
     ensures { result ≡ blank_at fans_parts r.now 0 }
 {
-    both(blank(r, 3, 1), blank(r, 12, 20))
+    blank(r, 3, 1) && blank(r, 12, 20)
 }
 
 // And in a D record.
@@ -66,7 +65,7 @@ pub fn dose_blank(r: &[u8]) -> bool
     requires { length r.now ≡ record_size }
     ensures { result ≡ blank_at dose_parts r.now 0 }
 {
-    both(blank(r, 1, 1), blank(r, 16, 16))
+    blank(r, 1, 1) && blank(r, 16, 16)
 }
 
 // Writes an F record at a place.
@@ -74,9 +73,9 @@ pub fn put_fans(b: &mut [u8], at: usize, f: Fans)
     requires { at + record_size ≤ length b.old }
     ensures { b.new ≡ written b.old at (fans_bytes (as_fans f)) }
 {
-    put8(b, at, FANS_KIND);
-    put8(b, at + 1, f.fans);
-    put8(b, at + 2, f.rule);
+    put_kind(b, at, Kind::Fans);
+    put::<1>(b, at + 1, f.fans);
+    put::<1>(b, at + 2, f.rule);
     put_blank(b, at + 3, 1);
     put_pair(b, at + 4, f.top_grams, f.top_seconds);
     put_blank(b, at + 12, 20);
@@ -87,10 +86,10 @@ pub fn put_dose(b: &mut [u8], at: usize, d: Dose)
     requires { at + record_size ≤ length b.old }
     ensures { b.new ≡ written b.old at (dose_bytes (as_dose d)) }
 {
-    put8(b, at, DOSE_KIND);
+    put_kind(b, at, Kind::Dose);
     put_blank(b, at + 1, 1);
-    put16(b, at + 2, d.bay);
+    put::<2>(b, at + 2, d.bay);
     put_pair(b, at + 4, d.release, d.deadline);
-    put32(b, at + 12, d.grams);
+    put::<4>(b, at + 12, d.grams);
     put_blank(b, at + 16, 16);
 }

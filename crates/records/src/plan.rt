@@ -1,12 +1,12 @@
-// Plan bytes as records, each by its index: a C, an S, or neither.
+// Bytes as records, each by its index: a plan's are a C, an S, or neither.
 ghost use Rattle.std.specs.Prelude.{◌≡◌, ◌/◌, ◌<◌, length};
-ghost use Rattle.model.specs.Records.{record_size};
+ghost use Rattle.model.specs.Records.{record_size, record_at};
 ghost use Rattle.records.specs.Held.{as_class, as_slot};
+ghost use Rattle.records.specs.Kinds.{Told};
 ghost use Rattle.records.specs.Plan.{class_in, slot_in, kind_at, is_class, is_slot};
 
 use crate::plan_records::{Class, Slot, class_blank, class_in, slot_blank, slot_in};
-use crate::{CLASS_KIND, RECORD_SIZE, SLOT_KIND, kind_of};
-use steps::both;
+use crate::{Kind, RECORD_SIZE, kind_of};
 
 // How many records there are.
 pub fn record_count(plan: &[u8]) -> usize
@@ -15,14 +15,21 @@ pub fn record_count(plan: &[u8]) -> usize
     plan.len() / RECORD_SIZE
 }
 
-// The kind of record i.
-pub fn kind_at(plan: &[u8], i: usize) -> u32
+// The bytes of record i.
+pub fn record(plan: &[u8], i: usize) -> &[u8]
     requires { i < length plan.now / record_size }
-    ensures { result ≡ kind_at plan.now i }
+    ensures { (result.now ≡ record_at plan.now i) × (length result.now ≡ record_size) }
 {
-    let a = RECORD_SIZE * i;
-    let e = a + RECORD_SIZE;
-    kind_of(&plan[a..e])
+    let first = RECORD_SIZE * i;
+    &plan[first..first + RECORD_SIZE]
+}
+
+// The kind of record i.
+pub fn kind_at(plan: &[u8], i: usize) -> Kind
+    requires { i < length plan.now / record_size }
+    ensures { Told result (kind_at plan.now i) }
+{
+    kind_of(record(plan, i))
 }
 
 // Record i, read as a C.
@@ -30,9 +37,7 @@ pub fn class_at(plan: &[u8], i: usize) -> Class
     requires { i < length plan.now / record_size }
     ensures { as_class result ≡ class_in plan.now i }
 {
-    let a = RECORD_SIZE * i;
-    let e = a + RECORD_SIZE;
-    class_in(&plan[a..e])
+    class_in(record(plan, i))
 }
 
 // Record i, read as an S.
@@ -40,9 +45,7 @@ pub fn slot_at(plan: &[u8], i: usize) -> Slot
     requires { i < length plan.now / record_size }
     ensures { as_slot result ≡ slot_in plan.now i }
 {
-    let a = RECORD_SIZE * i;
-    let e = a + RECORD_SIZE;
-    slot_in(&plan[a..e])
+    slot_in(record(plan, i))
 }
 
 // Whether record i is a C, its bytes not named zero.
@@ -50,9 +53,7 @@ pub fn is_class(plan: &[u8], i: usize) -> bool
     requires { i < length plan.now / record_size }
     ensures { result ≡ is_class plan.now i }
 {
-    let a = RECORD_SIZE * i;
-    let e = a + RECORD_SIZE;
-    both(kind_at(plan, i) == CLASS_KIND, class_blank(&plan[a..e]))
+    kind_at(plan, i) == Kind::Class && class_blank(record(plan, i))
 }
 
 // Whether record i is an S, its bytes not named zero.
@@ -60,7 +61,5 @@ pub fn is_slot(plan: &[u8], i: usize) -> bool
     requires { i < length plan.now / record_size }
     ensures { result ≡ is_slot plan.now i }
 {
-    let a = RECORD_SIZE * i;
-    let e = a + RECORD_SIZE;
-    both(kind_at(plan, i) == SLOT_KIND, slot_blank(&plan[a..e]))
+    kind_at(plan, i) == Kind::Slot && slot_blank(record(plan, i))
 }

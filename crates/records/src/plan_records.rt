@@ -3,11 +3,12 @@ ghost use Rattle.std.specs.Prelude.{◌≡◌, ◌++◌, ◌+◌, ◌*◌, ◌�
 ghost use Rattle.model.specs.Records.{record_size, number_bytes, blank_at, class_parts, slot_parts};
 ghost use Rattle.model.specs.Plans.{class_of, class_record, plan_record_bytes, slot_of, slot_record};
 ghost use Rattle.model.specs.Stands as stands;
+ghost use Rattle.records.specs.Kinds.{byte_of_kind};
 ghost use Rattle.records.specs.Written.{written};
 ghost use Rattle.records.specs.Held.{as_class, as_slot};
 
-use crate::number::{blank, put_blank, put_pair, put8, put16, read8, read16, read32};
-use crate::{CLASS_KIND, SLOT_KIND};
+use crate::kind::{Kind, put_kind};
+use crate::number::{blank, put, put_blank, put_pair, read};
 
 // "C (0x43) class: 1 class number from 1; 2-3 doses in it; 4-7 W; 8-11 P"
 #[derive(Clone, Copy)]
@@ -36,7 +37,7 @@ pub struct Slot {
 pub fn moment(tick: u32, part: u32, weight: u32) -> u64
     ensures { result ≡ tick * weight + part }
 {
-    (tick as u64) * (weight as u64) + part as u64
+    u64::from(tick) * u64::from(weight) + u64::from(part)
 }
 
 // Where a slot starts.
@@ -59,10 +60,10 @@ pub fn class_in(r: &[u8]) -> Class
     ensures { as_class result ≡ class_of r.now }
 {
     Class {
-        number: read8(r, 1),
-        doses: read16(r, 2),
-        weight: read32(r, 4),
-        time: read32(r, 8),
+        number: read::<1>(r, 1),
+        doses: read::<2>(r, 2),
+        weight: read::<4>(r, 4),
+        time: read::<4>(r, 8),
     }
 }
 
@@ -72,15 +73,15 @@ pub fn slot_in(r: &[u8]) -> Slot
     ensures { as_slot result ≡ slot_of r.now }
 {
     Slot {
-        fan: read8(r, 1),
-        dose: read16(r, 2),
-        start_tick: read32(r, 4),
-        start_part: read32(r, 8),
-        end_tick: read32(r, 12),
-        end_part: read32(r, 16),
-        weight: read32(r, 20),
-        time: read32(r, 24),
-        class: read8(r, 28),
+        fan: read::<1>(r, 1),
+        dose: read::<2>(r, 2),
+        start_tick: read::<4>(r, 4),
+        start_part: read::<4>(r, 8),
+        end_tick: read::<4>(r, 12),
+        end_part: read::<4>(r, 16),
+        weight: read::<4>(r, 20),
+        time: read::<4>(r, 24),
+        class: read::<1>(r, 28),
     }
 }
 
@@ -101,13 +102,13 @@ pub fn slot_blank(r: &[u8]) -> bool
 }
 
 // The first four bytes of a plan's record: its kind, a number in one byte and one in two.
-fn put_head(b: &mut [u8], at: usize, kind: u32, first: u32, second: u32)
+fn put_head(b: &mut [u8], at: usize, kind: Kind, first: u32, second: u32)
     requires { at + 4 ≤ length b.old }
-    ensures { b.new ≡ written b.old at (number_bytes 1 kind ++ (number_bytes 1 first ++ number_bytes 2 second)) }
+    ensures { b.new ≡ written b.old at (number_bytes 1 (byte_of_kind kind) ++ (number_bytes 1 first ++ number_bytes 2 second)) }
 {
-    put8(b, at, kind);
-    put8(b, at + 1, first);
-    put16(b, at + 2, second);
+    put_kind(b, at, kind);
+    put::<1>(b, at + 1, first);
+    put::<2>(b, at + 2, second);
 }
 
 // Writes a C record at a place.
@@ -115,7 +116,7 @@ pub fn put_class(b: &mut [u8], at: usize, c: Class)
     requires { at + record_size ≤ length b.old }
     ensures { b.new ≡ written b.old at (plan_record_bytes (class_record (as_class c))) }
 {
-    put_head(b, at, CLASS_KIND, c.number, c.doses);
+    put_head(b, at, Kind::Class, c.number, c.doses);
     put_pair(b, at + 4, c.weight, c.time);
     put_blank(b, at + 12, 20);
 }
@@ -125,10 +126,10 @@ pub fn put_slot(b: &mut [u8], at: usize, s: Slot)
     requires { at + record_size ≤ length b.old }
     ensures { b.new ≡ written b.old at (plan_record_bytes (slot_record (as_slot s))) }
 {
-    put_head(b, at, SLOT_KIND, s.fan, s.dose);
+    put_head(b, at, Kind::Slot, s.fan, s.dose);
     put_pair(b, at + 4, s.start_tick, s.start_part);
     put_pair(b, at + 12, s.end_tick, s.end_part);
     put_pair(b, at + 20, s.weight, s.time);
-    put8(b, at + 28, s.class);
+    put::<1>(b, at + 28, s.class);
     put_blank(b, at + 29, 3);
 }

@@ -6,4 +6,4 @@ use Rattle.records.proofs.number.put_pair.Goals as goal
 
 pub returns : goal.returns
 unfolding number_bytes
-returns c = join _ _ _ _ c.put32.ensures c.put32-2.ensures refl
+returns c = join _ _ _ _ c.put.ensures c.put-2.ensures refl

@@ -5,8 +5,8 @@ use Rattle.records.proofs.order_records.dose_in.Goals as goal
 pub returns : goal.returns
 unfolding fields_at
 returns c = λ i. record {
-  bay = c.read16.ensures.0 i;
-  release = c.read32.ensures.0 i;
-  deadline = c.read32-2.ensures.0 i;
-  grams = c.read32-3.ensures.0 i;
+  bay = c.read.ensures.0 i;
+  release = c.read-2.ensures.0 i;
+  deadline = c.read-3.ensures.0 i;
+  grams = c.read-4.ensures.0 i;
 }

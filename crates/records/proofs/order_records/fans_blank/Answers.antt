@@ -3,6 +3,10 @@ use mathlib.Core.Bool.{and-true}
 use Rattle.model.specs.Records.{blank_at}
 use Rattle.records.proofs.order_records.fans_blank.Goals as goal
 
-pub returns : goal.returns
+pub returns-then-blank : goal.returns-then-blank
 unfolding blank_at
-returns c = rw (c.both.ensures, c.blank.ensures, c.blank-2.ensures, and-true)
+returns-then-blank c = rw (← c.blank.ensures, c.if-blank.true, and-true) c.blank-then-blank.ensures
+
+pub returns-else-blank : goal.returns-else-blank
+unfolding blank_at
+returns-else-blank c = rw (← c.blank.ensures, c.if-blank.false)

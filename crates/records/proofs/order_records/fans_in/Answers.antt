@@ -5,8 +5,8 @@ use Rattle.records.proofs.order_records.fans_in.Goals as goal
 pub returns : goal.returns
 unfolding fields_at
 returns c = λ i. record {
-  fans = c.read8.ensures.0 i;
-  rule = c.read8-2.ensures.0 i;
-  top_grams = c.read32.ensures.0 i;
-  top_seconds = c.read32-2.ensures.0 i;
+  fans = c.read.ensures.0 i;
+  rule = c.read-2.ensures.0 i;
+  top_grams = c.read-3.ensures.0 i;
+  top_seconds = c.read-4.ensures.0 i;
 }

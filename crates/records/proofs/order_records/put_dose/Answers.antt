@@ -7,6 +7,6 @@ use Rattle.records.proofs.order_records.put_dose.Goals as goal
 pub returns : goal.returns
 unfolding number_bytes record_bytes
 returns c =
-    let head = join _ _ _ _ (join _ _ _ _ c.put8.ensures c.put_blank.ensures refl) c.put16.ensures refl in
-    let named = join _ _ _ _ (join _ _ _ _ head c.put_pair.ensures refl) c.put32.ensures refl in
+    let head = join _ _ _ _ (join _ _ _ _ c.put_kind.ensures c.put_blank.ensures refl) c.put.ensures refl in
+    let named = join _ _ _ _ (join _ _ _ _ head c.put_pair.ensures refl) c.put-2.ensures refl in
     join _ _ _ _ named c.put_blank-2.ensures refl

@@ -1,11 +1,14 @@
--- `is_slot` meets its contract: the kind of record i, and the zeros of the part of the bytes that is lent.
-use Rattle.model.specs.Records.{slot_kind, slot_parts}
+-- `is_slot` meets its contract: the kind of record i, and the zeros in its bytes.
+use Rattle.std.proofs.Common.{rules}
+use Rattle.records.specs.declared.kind.Kind.TheVariants.{Slot}
 use Rattle.records.specs.Plan.{is_slot}
-use Rattle.records.proofs.Records.{of_kind}
+use Rattle.records.proofs.Told.{slot_told, of_kind, of_other}
 use Rattle.records.proofs.plan.is_slot.Goals as goal
 
-pub returns : goal.returns
+pub returns-then-eq : goal.returns-then-eq
 unfolding is_slot
-returns c =
-    let A = c.args in
-    of_kind slot_parts slot_kind A.plan.now A.i c.both.ensures c.kind_at.ensures c.slot_blank.ensures
+returns-then-eq c = rw (of_kind Slot c.kind_at.ensures (search rules), ← c.record.ensures.0) c.slot_blank.ensures
+
+pub returns-else-eq : goal.returns-else-eq
+unfolding is_slot
+returns-else-eq c = rw (of_other Slot slot_told c.kind_at.ensures (λ e. search rules)) c.if-eq.false

@@ -5,8 +5,8 @@ use Rattle.records.proofs.plan_records.class_in.Goals as goal
 pub returns : goal.returns
 unfolding fields_at
 returns c = λ i. record {
-  number = c.read8.ensures.0 i;
-  doses = c.read16.ensures.0 i;
-  weight = c.read32.ensures.0 i;
-  time = c.read32-2.ensures.0 i;
+  number = c.read.ensures.0 i;
+  doses = c.read-2.ensures.0 i;
+  weight = c.read-3.ensures.0 i;
+  time = c.read-4.ensures.0 i;
 }

@@ -7,4 +7,4 @@ use Rattle.records.proofs.plan_records.put_head.Goals as goal
 pub returns : goal.returns
 unfolding number_bytes
 returns c =
-    join _ _ _ _ (join _ _ _ _ c.put8.ensures c.put8-2.ensures refl) c.put16.ensures refl
+    join _ _ _ _ (join _ _ _ _ c.put_kind.ensures c.put.ensures refl) c.put-2.ensures refl

@@ -9,5 +9,5 @@ pub returns : goal.returns
 unfolding number_bytes record_bytes plan_record_bytes
 returns c =
     let window = join _ _ _ _ (join _ _ _ _ c.put_head.ensures c.put_pair.ensures refl) c.put_pair-2.ensures refl in
-    let named = join _ _ _ _ (join _ _ _ _ window c.put_pair-3.ensures refl) c.put8.ensures refl in
+    let named = join _ _ _ _ (join _ _ _ _ window c.put_pair-3.ensures refl) c.put.ensures refl in
     join _ _ _ _ named c.put_blank.ensures refl

@@ -5,13 +5,13 @@ use Rattle.records.proofs.plan_records.slot_in.Goals as goal
 pub returns : goal.returns
 unfolding fields_at
 returns c = λ i. record {
-  fan = c.read8.ensures.0 i;
-  dose = c.read16.ensures.0 i;
-  start_tick = c.read32.ensures.0 i;
-  start_part = c.read32-2.ensures.0 i;
-  end_tick = c.read32-3.ensures.0 i;
-  end_part = c.read32-4.ensures.0 i;
-  weight = c.read32-5.ensures.0 i;
-  time = c.read32-6.ensures.0 i;
-  class = c.read8-2.ensures.0 i;
+  fan = c.read.ensures.0 i;
+  dose = c.read-2.ensures.0 i;
+  start_tick = c.read-3.ensures.0 i;
+  start_part = c.read-4.ensures.0 i;
+  end_tick = c.read-5.ensures.0 i;
+  end_part = c.read-6.ensures.0 i;
+  weight = c.read-7.ensures.0 i;
+  time = c.read-8.ensures.0 i;
+  class = c.read-9.ensures.0 i;
 }
