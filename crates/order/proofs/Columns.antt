@@ -35,21 +35,22 @@ run_at f k (suc n) (suc i) z h = run_at f (suc k) n i z (omega arith) ∙ ap f (
 
 -- ---- a column of an array
 
-pub column_more : {A : Type 0} (f : A → ℕ) (n : ℕ) (l : List A) (a : A) → length l < n → set (column f n l) (length l) (f a) ≡ column f n (l ++ a ∷ [])
-unfolding column
-column_more f zero l a h = absurd (let z : ⊥ = omega arith in z)
-column_more f (suc n) [] a h = refl
-column_more f (suc n) (b ∷ l) a h = ap (λ (t : List ℕ). f b ∷ t) (column_more f n l a (omega arith))
+module _ {A B : Type 0} (z : B) (f : A → B) where
+  pub column_more : (n : ℕ) (l : List A) (a : A) → length l < n → set (column z f n l) (length l) (f a) ≡ column z f n (l ++ a ∷ [])
+  unfolding column
+  column_more zero l a h = absurd (let y : ⊥ = omega arith in y)
+  column_more (suc n) [] a h = refl
+  column_more (suc n) (b ∷ l) a h = ap (λ (t : List B). f b ∷ t) (column_more n l a (omega arith))
 
-pub column_set : {A : Type 0} {a : List ℕ} {n : ℕ} (f : A → ℕ) (l : List A) (d : A) → a ≡ column f most_doses l → n ≡ length l → length l < most_doses
-    → set a n (f d) ≡ column f most_doses (l ++ d ∷ [])
-column_set f l d p q h = rw (p, q) (column_more f most_doses l d h)
+  pub column_set : {a : List B} {n : ℕ} (l : List A) (d : A) → a ≡ column z f most_doses l → n ≡ length l → length l < most_doses
+      → set a n (f d) ≡ column z f most_doses (l ++ d ∷ [])
+  column_set l d p q h = rw (p, q) (column_more most_doses l d h)
 
-pub column_at : {A : Type 0} (f : A → ℕ) (z : A) → f z ≡ 0 → (n : ℕ) (l : List A) (k : ℕ) → length l ≤ n → get_or (column f n l) k 0 ≡ f (get_or l k z)
-unfolding column
-column_at f z e zero [] k h = sym e
-column_at f z e zero (a ∷ l) k h = absurd (let z : ⊥ = omega arith in z)
-column_at f z e (suc n) [] zero h = sym e
-column_at f z e (suc n) [] (suc k) h = column_at f z e n [] k (omega arith)
-column_at f z e (suc n) (a ∷ l) zero h = refl
-column_at f z e (suc n) (a ∷ l) (suc k) h = column_at f z e n l k (omega arith)
+  pub column_at : (none : A) → f none ≡ z → (n : ℕ) (l : List A) (k : ℕ) → length l ≤ n → get_or (column z f n l) k z ≡ f (get_or l k none)
+  unfolding column
+  column_at none e zero [] k h = sym e
+  column_at none e zero (a ∷ l) k h = absurd (let y : ⊥ = omega arith in y)
+  column_at none e (suc n) [] zero h = sym e
+  column_at none e (suc n) [] (suc k) h = column_at none e n [] k (omega arith)
+  column_at none e (suc n) (a ∷ l) zero h = refl
+  column_at none e (suc n) (a ∷ l) (suc k) h = column_at none e n l k (omega arith)

@@ -1,30 +1,70 @@
--- How the structs of `order` hold what document 01 speaks of, and back.
-use Rattle.std.specs.Prelude.{◌≡◌, List, [], ◌∷◌, ℕ, zero, suc, ◌≤◌, eqb, length, get_or}
+-- How the types of `order` hold what document 01 speaks of, and back.
+use Rattle.std.specs.Prelude.{◌≡◌, List, [], ◌∷◌, ℕ, zero, suc, ◌≤◌, eqb, length, get_or, Result, Ok, Err, IfOk}
 use Rattle.model.specs.Limits.{most_doses}
 use Rattle.model.specs.Records.{pick, read, refused}
 use Rattle.model.specs.Records as records
-use Rattle.model.specs.Orders.{fans_entry, dose_entry, read_order}
+use Rattle.model.specs.Orders.{fans_entry, dose_entry, no_dose, read_order}
 use Rattle.model.specs.Orders as orders
-use Rattle.records.specs.Held.{held_fans, held_dose}
+use Rattle.records.specs.declared.order_records.Dose.{Dose}
+use Rattle.records.specs.Held.{as_dose, held_fans, held_dose}
 use Rattle.order.specs.declared.Entry.{Entry}
 use Rattle.order.specs.declared.Entry.TheVariants as is
 use Rattle.order.specs.declared.Order.{Order}
-use Rattle.order.specs.declared.Reading.{Reading}
+use Rattle.order.specs.declared.refusal.Refusal.{Refusal}
+use Rattle.order.specs.declared.refusal.Refusal.TheVariants.{Length, Kind, NotBlank, OutOfRange, NotOneFans, TooManyDoses, Clash, TrialBay}
+
+-- ---- a refusal
+
+-- its number in the documents
+abbrev pub number_of : Refusal → ℕ
+number_of Length = 2
+number_of (Kind k) = 3
+number_of (NotBlank k) = 4
+number_of (OutOfRange k) = 5
+number_of NotOneFans = 6
+number_of TooManyDoses = 7
+number_of (Clash k) = 8
+number_of (TrialBay k) = 15
+
+-- and its place; 0 where no record is named
+abbrev pub place_of : Refusal → ℕ
+place_of Length = 0
+place_of (Kind k) = k
+place_of (NotBlank k) = k
+place_of (OutOfRange k) = k
+place_of NotOneFans = 0
+place_of TooManyDoses = 0
+place_of (Clash k) = k
+place_of (TrialBay k) = k
+
+-- the refusal with a number and a place
+abbrev pub held_refusal : ℕ → ℕ → Refusal
+held_refusal number k =
+    pick (eqb number 3) (Kind k)
+    (pick (eqb number 4) (NotBlank k)
+    (pick (eqb number 5) (OutOfRange k)
+    (pick (eqb number 6) NotOneFans
+    (pick (eqb number 7) TooManyDoses
+    (pick (eqb number 8) (Clash k)
+    (pick (eqb number 15) (TrialBay k) Length))))))
 
 -- ---- one record
 
--- the enum that holds a record's fields or its refusal
-unfoldable pub held_entry : records.Reading orders.Entry → Entry
-held_entry (read (fans_entry f)) = is.Fans (held_fans f)
-held_entry (read (dose_entry d)) = is.Dose (held_dose d)
-held_entry (refused number place) = is.Refused (record { number = number; place = place })
+-- a record's fields or its refusal
+unfoldable pub held_entry : records.Reading orders.Entry → Result Entry Refusal
+held_entry (read (fans_entry f)) = Ok (is.Fans (held_fans f))
+held_entry (read (dose_entry d)) = Ok (is.Dose (held_dose d))
+held_entry (refused number place) = Err (held_refusal number place)
 
 -- ---- an order
 
--- dose k of the arrays
+-- what stands behind the last dose
+abbrev pub zeros : Dose
+zeros = held_dose no_dose
+
+-- dose k of the array
 abbrev pub dose_held : Order → ℕ → orders.Dose
-dose_held o k =
-    record { bay = get_or o.bay k 0; release = get_or o.release k 0; deadline = get_or o.deadline k 0; grams = get_or o.grams k 0 }
+dose_held o k = as_dose (get_or o.doses k zeros)
 
 -- f k, f (k + 1), .. : n of them
 unfoldable pub run : {A : Type 0} → (ℕ → A) → ℕ → ℕ → List A
@@ -43,11 +83,11 @@ doses_held o = doses_from o 0 o.count
 unfoldable pub as_order : Order → orders.Order
 as_order o = record { fans = o.fans; rest = o.rest; top_grams = o.top_grams; top_seconds = o.top_seconds; doses = doses_held o }
 
--- an array of n places: what f gives of each member, then zeros
-unfoldable pub column : {A : Type 0} → (A → ℕ) → ℕ → List A → List ℕ
-column f zero l = []
-column f (suc n) [] = 0 ∷ column f n []
-column f (suc n) (a ∷ l) = f a ∷ column f n l
+-- an array of n places: what f gives of each member, then z
+unfoldable pub column : {A B : Type 0} → B → (A → B) → ℕ → List A → List B
+column z f zero l = []
+column z f (suc n) [] = z ∷ column z f n []
+column z f (suc n) (a ∷ l) = f a ∷ column z f n l
 
 -- the struct that holds an order
 unfoldable pub held_order : orders.Order → Order
@@ -57,10 +97,7 @@ held_order o = record {
   top_grams = o.top_grams;
   top_seconds = o.top_seconds;
   count = length o.doses;
-  bay = column (λ (d : orders.Dose). d.bay) most_doses o.doses;
-  release = column (λ (d : orders.Dose). d.release) most_doses o.doses;
-  deadline = column (λ (d : orders.Dose). d.deadline) most_doses o.doses;
-  grams = column (λ (d : orders.Dose). d.grams) most_doses o.doses;
+  doses = column zeros held_dose most_doses o.doses;
 }
 
 -- zeros
@@ -69,17 +106,18 @@ no_order = held_order (record { fans = 0; rest = 0; top_grams = 0; top_seconds =
 
 -- ---- the answer
 
--- the struct that holds an order or its refusal: "Fields not meant are 0"
-unfoldable pub held_reading : records.Reading orders.Order → Reading
-held_reading (read o) = record { number = 0; place = 0; order = held_order o }
-held_reading (refused number place) = record { number = number; place = place; order = no_order }
+-- the order or its refusal
+unfoldable pub held_reading : records.Reading orders.Order → Result Order Refusal
+held_reading (read o) = Ok (held_order o)
+held_reading (refused number place) = Err (held_refusal number place)
 
--- what such a struct says
-abbrev pub as_reading : Reading → records.Reading orders.Order
-as_reading r = pick (eqb r.number 0) (read (as_order r.order)) (refused r.number r.place)
+-- what such an answer says
+abbrev pub as_reading : Result Order Refusal → records.Reading orders.Order
+as_reading (Ok o) = read (as_order o)
+as_reading (Err x) = refused (number_of x) (place_of x)
 
--- r is the answer for the bytes, bays open up to `last`: the struct is settled whole, it says what documents 01 and 02 do, and its doses fit the arrays
-pub record ReadFrom (last : ℕ) (bytes : List ℕ) (r : Reading) : Type 0 where
+-- r is the answer for the bytes, bays open up to `last`: it is settled whole, it says what documents 01 and 02 do, and the doses fit the array
+pub record ReadFrom (last : ℕ) (bytes : List ℕ) (r : Result Order Refusal) : Type 0 where
   pub whole : r ≡ held_reading (read_order last bytes)
   pub says : as_reading r ≡ read_order last bytes
-  pub few : r.order.count ≤ most_doses
+  pub few : IfOk r (λ o. o.count ≤ most_doses)

@@ -1,9 +1,8 @@
-use Prim.Native.Nat.{◌-◌}
+use Prim.Native.Nat.{◌/◌}
+use lib.ListN.{length}
+use Rattle.model.specs.Records.{record_size}
 use Rattle.order.proofs.Walks.{Walking}
 use Rattle.order.proofs.walk.Given as goal
 
 abbrev pub invariant-loop-k : goal.invariant-loop-k
-invariant-loop-k l = Walking l.last l.bytes l.n l.k l.s
-
-abbrev pub decreases-loop-k : goal.decreases-loop-k
-decreases-loop-k l = l.n - l.k
+invariant-loop-k l = Walking l.last l.bytes (length l.bytes / record_size) l.k l.s

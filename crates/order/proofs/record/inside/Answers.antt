@@ -1,9 +1,0 @@
--- `inside` meets its contract: the lower end is asked first, then the upper.
-use borrow.Author.Tests.{le-leb, lt-leb}
-use Rattle.order.proofs.record.inside.Goals as goal
-
-pub returns-then-lo-v : goal.returns-then-lo-v
-returns-then-lo-v c = simp (le-leb _ _ c.if-lo-v.true)
-
-pub returns-else-lo-v : goal.returns-else-lo-v
-returns-else-lo-v c = simp (lt-leb _ _ c.if-lo-v.false)
