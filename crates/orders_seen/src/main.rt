@@ -8,72 +8,52 @@ ghost use Rattle.model.specs.Limits.{most_doses};
 use order::Order;
 use records::{Dose, Fans};
 use std::io;
-use steps::limits::{LAST_OPEN_BAY, MOST_BAY};
+use steps::limits::{LAST_OPEN_BAY, MOST_BAY, MOST_INTERVALS};
 
 fn word(rt: &impl Print, text: &str) -> io::Result<()> {
     rt.print(text)
 }
 
-fn number(rt: &impl Print, n: u32) -> io::Result<()> {
-    print!(rt; "{n} ")
+fn show_dose(rt: &impl Print, d: Dose) -> io::Result<()> {
+    print!(rt; "[{} {} {} {} ]", d.bay, d.release, d.deadline, d.grams)
 }
 
-fn count(rt: &impl Print, n: usize) -> io::Result<()> {
-    print!(rt; "{n} ")
-}
-
-fn show_dose(rt: &impl Print, o: Order, k: usize) -> io::Result<()>
-    requires { k < most_doses }
-{
-    word(rt, "[")?;
-    number(rt, o.bay[k])?;
-    number(rt, o.release[k])?;
-    number(rt, o.deadline[k])?;
-    number(rt, o.grams[k])?;
-    word(rt, "]")
-}
-
-fn show_doses(rt: &impl Print, o: Order) -> io::Result<()>
-    requires { o.count ≤ most_doses }
+fn show_doses(rt: &impl Print, o: &Order) -> io::Result<()>
+    requires { o.now.count ≤ most_doses }
 {
     for k in 0..o.count {
-        show_dose(rt, o, k)?;
+        show_dose(rt, o.dose(k))?;
     }
     Ok(())
 }
 
-fn show_spans(rt: &impl Print, o: Order) -> io::Result<()>
-    requires { o.count ≤ most_doses }
+fn show_spans(rt: &impl Print, o: &Order) -> io::Result<()>
+    requires { o.now.count ≤ most_doses }
 {
     let s = interval::instants_of(o);
-    for j in 0..47 {
-        let l = interval::span(s, j);
+    for j in 0..MOST_INTERVALS {
+        let l = interval::span(&s, j);
         if 0 < l {
-            number(rt, l)?;
+            print!(rt; "{l} ")?;
         }
     }
     Ok(())
 }
 
 fn show_read(rt: &impl Print, last: u32, bytes: &[u8]) -> io::Result<()> {
-    let r = order::read_order(last, bytes);
-    if r.number != 0 {
-        word(rt, "refused ")?;
-        number(rt, r.number)?;
-        count(rt, r.place)?;
-        word(rt, "\n")?;
-        return Ok(());
+    match order::read_order(last, bytes) {
+        Err(x) => print!(rt; "refused {} {} \n", x.number(), x.place()),
+        Ok(o) => {
+            print!(rt;
+                "order {} {} {} {} ",
+                o.fans, o.rest, o.top_grams, o.top_seconds
+            )?;
+            show_doses(rt, &o)?;
+            word(rt, " spans ")?;
+            show_spans(rt, &o)?;
+            word(rt, "\n")
+        }
     }
-    let o = r.order;
-    word(rt, "order ")?;
-    number(rt, o.fans)?;
-    number(rt, o.rest)?;
-    number(rt, o.top_grams)?;
-    number(rt, o.top_seconds)?;
-    show_doses(rt, o)?;
-    word(rt, " spans ")?;
-    show_spans(rt, o)?;
-    word(rt, "\n")
 }
 
 fn show(rt: &impl Print, bytes: &[u8]) -> io::Result<()> {
