@@ -26,27 +26,27 @@ pub cell_col : (J k j k' j' : ℕ) → j < J → j' < J → k * J + j ≡ k' * J
 cell_col J k j k' j' h l e = sym (digits_mod k h) ∙ ap (λ (y : ℕ). y % J) e ∙ digits_mod k' l
 
 module _ (l : List ℕ) (n J k j v : ℕ) (kn : k < n) (j_j : j < J) (sized : length l ≡ n * J) where
-  abbrev new : List ℕ
-  new = set l (k * J + j) v
-
-  pub at_same : at new J k j ≡ v
+  pub at_same : at (set l (k * J + j) v) J k j ≡ v
   at_same = get_or-set_same l (k * J + j) v 0 (omega (arith, cell_lt n J k j kn j_j))
 
-  pub at_other_row : (k' j' : ℕ) → j' < J → k' ≢ k → at new J k' j' ≡ at l J k' j'
+  pub at_other_row : (k' j' : ℕ) → j' < J → k' ≢ k → at (set l (k * J + j) v) J k' j' ≡ at l J k' j'
   at_other_row k' j' h d = get_or-set_other l (k * J + j) (k' * J + j') v 0 (λ e. d (cell_row J k' j' k j h j_j e))
 
-  pub at_other_col : (k' j' : ℕ) → j' < J → j' ≢ j → at new J k' j' ≡ at l J k' j'
+  pub at_other_col : (k' j' : ℕ) → j' < J → j' ≢ j → at (set l (k * J + j) v) J k' j' ≡ at l J k' j'
   at_other_col k' j' h d = get_or-set_other l (k * J + j) (k' * J + j') v 0 (λ e. d (cell_col J k' j' k j h j_j e))
 
-  -- the row and the column of the cell, and the other rows and columns
-  pub row_change : sum J (λ i. at new J k i) + at l J k j ≡ sum J (λ i. at l J k i) + v
-  row_change = omega (arith, at_same, sum_change J (λ i. at l J k i) (λ i. at new J k i) j j_j (λ i h d. sym (at_other_col k i h d)))
+-- one cell holds v, and the others what they held: the row and the column of the cell, and the other rows and columns
+module _ (l m : List ℕ) (n J k j v : ℕ) (kn : k < n) (j_j : j < J) (own : at m J k j ≡ v) where
+  module _ (rows : (k' j' : ℕ) → j' < J → k' ≢ k → at m J k' j' ≡ at l J k' j') where
+    pub col_change : sum n (λ i. at m J i j) + at l J k j ≡ sum n (λ i. at l J i j) + v
+    col_change = omega (arith, own, sum_change n (λ i. at l J i j) (λ i. at m J i j) k kn (λ i h d. sym (rows i j j_j d)))
 
-  pub col_change : sum n (λ i. at new J i j) + at l J k j ≡ sum n (λ i. at l J i j) + v
-  col_change = omega (arith, at_same, sum_change n (λ i. at l J i j) (λ i. at new J i j) k kn (λ i h d. sym (at_other_row i j j_j d)))
+    pub row_other : (k' : ℕ) → k' ≢ k → sum J (λ i. at m J k' i) ≡ sum J (λ i. at l J k' i)
+    row_other k' d = sum_congr J (λ i h. rows k' i h d)
 
-  pub row_other : (k' : ℕ) → k' ≢ k → sum J (λ i. at new J k' i) ≡ sum J (λ i. at l J k' i)
-  row_other k' d = sum_congr J (λ i h. at_other_row k' i h d)
+  module _ (cols : (k' j' : ℕ) → j' < J → j' ≢ j → at m J k' j' ≡ at l J k' j') where
+    pub row_change : sum J (λ i. at m J k i) + at l J k j ≡ sum J (λ i. at l J k i) + v
+    row_change = omega (arith, own, sum_change J (λ i. at l J k i) (λ i. at m J k i) j j_j (λ i h d. sym (cols k i h d)))
 
-  pub col_other : (j' : ℕ) → j' < J → j' ≢ j → sum n (λ i. at new J i j') ≡ sum n (λ i. at l J i j')
-  col_other j' h d = sum_congr n (λ i q. at_other_col i j' h d)
+    pub col_other : (j' : ℕ) → j' < J → j' ≢ j → sum n (λ i. at m J i j') ≡ sum n (λ i. at l J i j')
+    col_other j' h d = sum_congr n (λ i q. cols i j' h d)

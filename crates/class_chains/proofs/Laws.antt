@@ -4,25 +4,17 @@ use Prim.Native.Nat.{ℕ, zero, suc, ◌+◌, ◌-◌, ◌*◌, ◌<◌, ◌≤�
 use mathlib.Core.List.{List, [], ◌∷◌}
 use mathlib.Core.Bool.{Bool, true, false}
 use mathlib.Core.Path.{◌≡◌, refl, sym, ap, ◌∙◌}
-use mathlib.Core.Logic.{◌≢◌, inl, inr}
+use mathlib.Core.Logic.{◌≢◌}
 use lib.ListN.{length, get_or, set}
 use lib.Seq.{get_or-set_other}
 use native.Mathlib.Omega.{arith}
 use Rattle.model.specs.Limits.{cells, most_doses, most_intervals}
 use Rattle.model.specs.Sets.{sum}
-use Rattle.model.proofs.Fractions.{compare≤}
-use Rattle.model.proofs.Sums.{sum_up}
-use Rattle.steps.proofs.Tests.{not_both, known, alike}
+use Rattle.model.proofs.Sums.{sum_congr, sum_up}
+use Rattle.steps.proofs.Tests.{not_both, alike}
 use Rattle.steps.proofs.Loops.{sum_none, sum_more}
-use Rattle.class_chains.specs.Chains.{unseen_count, cell, Seen, Unseen, got, given, Sized, Bounded, Kept, Exhausted, DoseUp, IntervalDown}
-use Rattle.class_chains.proofs.Cells.{at_same, at_other_row, at_other_col, row_change, col_change, row_other, col_other, cell_row, cell_col}
-
--- what holds below j, at j, and from there up to r
-pub below_to : (P : ℕ → Type 0) (j r : ℕ) → ((i : ℕ) → i < j → P i) → P j → ((i : ℕ) → j + 1 ≤ i → i < r → P i) → (i : ℕ) → i < r → P i
-below_to P j r low here high i h = elim (compare≤ j i) [
-  | inl g ↦ alike i j (λ q. rw q here) (λ q. high i (omega arith) h)
-  | inr g ↦ low i g
-]
+use Rattle.class_chains.specs.Chains.{unseen_count, cell, Seen, Unseen, got, given, Bounded, Written, Kept, Exhausted, DoseUp, IntervalDown}
+use Rattle.class_chains.proofs.Cells.{at_same, at_other_row, at_other_col, row_change, col_change, row_other, col_other}
 
 -- ---- sums as a loop makes them
 
@@ -54,36 +46,44 @@ pub got_sum : (x : List ℕ) (k : ℕ) → sum most_intervals (λ j. cell x k j)
 unfolding got
 got_sum x k = refl
 
--- ---- one store
+-- the cells of a row stand side by side
+pub got_side_by_side : (x : List ℕ) (d : ℕ) → sum most_intervals (λ i. get_or x (i * 1 + d * most_intervals) 0) ≡ got x d
+unfolding got
+got_side_by_side x d = sum_congr most_intervals (λ i h. ap (λ (n : ℕ). get_or x n 0) (omega arith))
 
-module _ (x : List ℕ) (k j v : ℕ) (hk : k < most_doses) (hj : j < most_intervals) (sized : length x ≡ cells) where
-  pub cell_own : cell (set x (k * most_intervals + j) v) k j ≡ v
-  cell_own = at_same x most_doses most_intervals k j v hk hj sized
+-- ---- one cell is written
 
-  pub got_own : got (set x (k * most_intervals + j) v) k + cell x k j ≡ got x k + v
+pub cell_written : (x : List ℕ) (d j v : ℕ) → d < most_doses → j < most_intervals → length x ≡ cells → Written d j v x (set x (d * most_intervals + j) v)
+cell_written x d j v hd hj sized = record {
+  own = at_same x most_doses most_intervals d j v hd hj sized;
+  doses = at_other_row x most_doses most_intervals d j v hd hj sized;
+  intervals = at_other_col x most_doses most_intervals d j v hd hj sized;
+}
+
+module _ {x y : List ℕ} (k j : ℕ) {v : ℕ} (hk : k < most_doses) (hj : j < most_intervals) (wrote : Written k j v x y) where
+  pub got_own : got y k + cell x k j ≡ got x k + v
   unfolding got
-  got_own = row_change x most_doses most_intervals k j v hk hj sized
+  got_own = row_change x y most_doses most_intervals k j v hk hj wrote.own wrote.intervals
 
-  pub given_own : given (set x (k * most_intervals + j) v) j + cell x k j ≡ given x j + v
+  pub given_own : given y j + cell x k j ≡ given x j + v
   unfolding given
-  given_own = col_change x most_doses most_intervals k j v hk hj sized
+  given_own = col_change x y most_doses most_intervals k j v hk hj wrote.own wrote.doses
 
-  pub got_else : (e : ℕ) → e ≢ k → got (set x (k * most_intervals + j) v) e ≡ got x e
+  pub got_else : (e : ℕ) → e ≢ k → got y e ≡ got x e
   unfolding got
-  got_else e d = row_other x most_doses most_intervals k j v hk hj sized e d
+  got_else e d = row_other x y most_doses most_intervals k j v hk hj wrote.own wrote.doses e d
 
-  pub given_else : (i : ℕ) → i < most_intervals → i ≢ j → given (set x (k * most_intervals + j) v) i ≡ given x i
+  pub given_else : (i : ℕ) → i < most_intervals → i ≢ j → given y i ≡ given x i
   unfolding given
-  given_else i h d = col_other x most_doses most_intervals k j v hk hj sized i h d
+  given_else i h d = col_other x y most_doses most_intervals k j v hk hj wrote.own wrote.intervals i h d
 
-  -- every cell is within its room after the store, if this one is
+  -- every cell is within its room after the write, if this one is
   pub cells_after : (rooms : List ℕ) → ((e i : ℕ) → e < most_doses → i < most_intervals → cell x e i ≤ cell rooms e i) → v ≤ cell rooms k j
-      → (e i : ℕ) → e < most_doses → i < most_intervals → cell (set x (k * most_intervals + j) v) e i ≤ cell rooms e i
+      → (e i : ℕ) → e < most_doses → i < most_intervals → cell y e i ≤ cell rooms e i
   cells_after rooms all own e i he hi =
       alike e k
-      (λ p. alike i j (λ q. rw (p, q) (omega (arith, cell_own)))
-      (λ q. omega (arith, all e i he hi, at_other_col x most_doses most_intervals k j v hk hj sized e i hi q)))
-      (λ p. omega (arith, all e i he hi, at_other_row x most_doses most_intervals k j v hk hj sized e i hi p))
+      (λ p. alike i j (λ q. rw (p, q) (omega (arith, wrote.own))) (λ q. omega (arith, all e i he hi, wrote.intervals e i hi q)))
+      (λ p. omega (arith, all e i he hi, wrote.doses e i hi p))
 
 -- ---- marks
 
@@ -127,18 +127,12 @@ kept_mark s x i q e = record {
 }
 
 -- a cell whose dose and interval were not visited is written
-pub kept_write : {s t : List Bool} {x y : List ℕ} (d j v : ℕ) → d < most_doses → j < most_intervals → Kept s x t y → (Seen s d → ⊥) → (Seen s (most_doses + j) → ⊥)
-    → Kept s x t (set y (d * most_intervals + j) v)
-kept_write {s} {t} {x} {y} d j v hd hj p e f = record {
+pub kept_write : {s t : List Bool} {x y z : List ℕ} {d j v : ℕ} → Kept s x t y → Written d j v y z → (Seen s d → ⊥) → (Seen s (most_doses + j) → ⊥) → Kept s x t z
+kept_write {s = s} p wrote e f = record {
   more = p.more;
   fewer = p.fewer;
-  doses = λ d' j' hd' hj' h.
-      get_or-set_other y (d * most_intervals + j) (d' * most_intervals + j') v 0 (λ q. e (ap (λ (n : ℕ). get_or s n false) (sym (cell_row most_intervals d' j' d j hj' hj q)) ∙ h))
-      ∙ p.doses d' j' hd' hj' h;
-  intervals = λ d' j' hd' hj' h.
-      get_or-set_other y (d * most_intervals + j) (d' * most_intervals + j') v 0
-      (λ q. f (ap (λ (n : ℕ). get_or s (most_doses + n) false) (sym (cell_col most_intervals d' j' d j hj' hj q)) ∙ h))
-      ∙ p.intervals d' j' hd' hj' h;
+  doses = λ d' j' hd' hj' h. wrote.doses d' j' hj' (λ q. e (ap (λ (n : ℕ). get_or s n false) (sym q) ∙ h)) ∙ p.doses d' j' hd' hj' h;
+  intervals = λ d' j' hd' hj' h. wrote.intervals d' j' hj' (λ q. f (ap (λ (n : ℕ). get_or s (most_doses + n) false) (sym q) ∙ h)) ∙ p.intervals d' j' hd' hj' h;
 }
 
 -- a search that starts by a mark has fewer stations left at each call
@@ -152,14 +146,6 @@ exhausted_none rooms holds least x s = record {
   doses = λ e j he hj f t h. absurd (not_both t f);
   spares = λ j hj f t. absurd (not_both t f);
   intervals = λ e j he hj f t h. absurd (not_both t f);
-}
-
-pub exhausted_trans : {rooms holds x y z : List ℕ} {least : ℕ} {s t u : List Bool} → Exhausted rooms holds least x s t → Exhausted rooms holds least x t u → Kept t y u z
-    → Exhausted rooms holds least x s u
-exhausted_trans {t = t} p q k = record {
-  doses = λ e j he hj f h l. known (get_or t e false) (λ m. k.more (most_doses + j) (p.doses e j he hj f m l)) (λ m. q.doses e j he hj m h l);
-  spares = λ j hj f h. known (get_or t (most_doses + j) false) (λ m. p.spares j hj f m) (λ m. q.spares j hj m h);
-  intervals = λ e j he hj f h l. known (get_or t (most_doses + j) false) (λ m. k.more e (p.intervals e j he hj f m l)) (λ m. q.intervals e j he hj m h l);
 }
 
 -- the dose that was marked first is shut too
@@ -181,10 +167,6 @@ exhausted_interval s i hi p none all = record {
 }
 
 -- ---- totals
-
--- the shares change, and keep their length
-pub sized_now : {x y rooms holds : List ℕ} → Sized x rooms holds → length y ≡ cells → Sized y rooms holds
-sized_now f e = record { shares = e; rooms = f.rooms; holds = f.holds }
 
 pub bounded_same : {rooms holds x y : List ℕ} → Bounded rooms holds x → y ≡ x → Bounded rooms holds y
 bounded_same f e = rw e f
@@ -211,27 +193,42 @@ pub up_from : {rooms holds x y z : List ℕ} {d a : ℕ} → x ≡ z → DoseUp 
 up_from e p = rw e at p
 
 -- dose d takes a in interval j, which could hold a more
-pub dose_write : {rooms holds x y : List ℕ} (d j a : ℕ) → d < most_doses → j < most_intervals → length y ≡ cells → IntervalDown rooms holds j a x y
-    → cell y d j + a ≤ cell rooms d j → DoseUp rooms holds d a x (set y (d * most_intervals + j) (cell y d j + a))
-dose_write {rooms} {holds} {x} {y} d j a hd hj sized p room = record {
+pub dose_write : {rooms holds x y z : List ℕ} (d j a : ℕ) → d < most_doses → j < most_intervals → IntervalDown rooms holds j a x y → cell y d j + a ≤ cell rooms d j
+    → Written d j (cell y d j + a) y z → DoseUp rooms holds d a x z
+dose_write {rooms} d j a hd hj p room wrote = record {
   bounded = record {
-    roomy = cells_after y d j (cell y d j + a) hd hj sized rooms p.roomy room;
+    roomy = cells_after d j hd hj wrote rooms p.roomy room;
     held = λ i hi. alike i j
-        (λ q. rw q (omega (arith, p.own, given_own y d j (cell y d j + a) hd hj sized)))
-        (λ q. omega (arith, p.others i hi q, given_else y d j (cell y d j + a) hd hj sized i hi q));
+        (λ q. rw q (omega (arith, p.own, given_own d j hd hj wrote)))
+        (λ q. omega (arith, p.others i hi q, given_else d j hd hj wrote i hi q));
   };
-  own = omega (arith, p.doses d hd, got_own y d j (cell y d j + a) hd hj sized);
-  others = λ k hk q. got_else y d j (cell y d j + a) hd hj sized k q ∙ p.doses k hk;
+  own = omega (arith, p.doses d hd, got_own d j hd hj wrote);
+  others = λ k hk q. got_else d j hd hj wrote k q ∙ p.doses k hk;
 }
 
 -- dose d, which has a more elsewhere, gives a back in interval j
-pub interval_write : {rooms holds x y : List ℕ} (d j a : ℕ) → d < most_doses → j < most_intervals → length y ≡ cells → DoseUp rooms holds d a x y
-    → a ≤ cell y d j → IntervalDown rooms holds j a x (set y (d * most_intervals + j) (cell y d j - a))
-interval_write {rooms} {holds} {x} {y} d j a hd hj sized p less = record {
-  roomy = cells_after y d j (cell y d j - a) hd hj sized rooms p.bounded.roomy (omega (arith, p.bounded.roomy d j hd hj));
-  own = omega (arith, p.bounded.held j hj, given_own y d j (cell y d j - a) hd hj sized);
-  others = λ i hi q. omega (arith, p.bounded.held i hi, given_else y d j (cell y d j - a) hd hj sized i hi q);
+pub interval_write : {rooms holds x y z : List ℕ} (d j a : ℕ) → d < most_doses → j < most_intervals → DoseUp rooms holds d a x y → a ≤ cell y d j
+    → Written d j (cell y d j - a) y z → IntervalDown rooms holds j a x z
+interval_write {rooms} d j a hd hj p less wrote = record {
+  roomy = cells_after d j hd hj wrote rooms p.bounded.roomy (omega (arith, p.bounded.roomy d j hd hj));
+  own = omega (arith, p.bounded.held j hj, given_own d j hd hj wrote);
+  others = λ i hi q. omega (arith, p.bounded.held i hi, given_else d j hd hj wrote i hi q);
   doses = λ k hk. alike k d
-      (λ q. rw q (omega (arith, p.own, got_own y d j (cell y d j - a) hd hj sized)))
-      (λ q. got_else y d j (cell y d j - a) hd hj sized k q ∙ p.others k hk q);
+      (λ q. rw q (omega (arith, p.own, got_own d j hd hj wrote)))
+      (λ q. got_else d j hd hj wrote k q ∙ p.others k hk q);
+}
+
+-- dose d takes a, for which there is room and spare time
+pub dose_takes : {rooms holds x y : List ℕ} (d j a : ℕ) → d < most_doses → j < most_intervals → Bounded rooms holds x → cell x d j + a ≤ cell rooms d j
+    → given x j + a ≤ get_or holds j 0 → Written d j (cell x d j + a) x y → DoseUp rooms holds d a x y
+dose_takes d j a hd hj f room spare wrote = dose_write d j a hd hj (interval_still j a f refl spare) room wrote
+
+-- and gives a back: interval j could hold as much more
+pub dose_gives : {rooms holds x y : List ℕ} (d j a : ℕ) → d < most_doses → j < most_intervals → Bounded rooms holds x → a ≤ cell x d j
+    → Written d j (cell x d j - a) x y → Bounded rooms holds y
+dose_gives {rooms} d j a hd hj f less wrote = record {
+  roomy = cells_after d j hd hj wrote rooms f.roomy (omega (arith, f.roomy d j hd hj));
+  held = λ i hi. alike i j
+      (λ q. rw q (omega (arith, f.held j hj, given_own d j hd hj wrote)))
+      (λ q. omega (arith, f.held i hi, given_else d j hd hj wrote i hi q));
 }

@@ -1,3 +1,4 @@
 pub mod Cells
 pub mod Laws
+pub mod OneAnswer
 pub mod Searches

@@ -1,17 +1,16 @@
 -- Laws of the two searches: what a loop over the ways on has tried so far, and what a search promises where it stops, fails or pushes.
 -- Assumes nothing.
-use Prim.Native.Nat.{ℕ, ◌+◌, ◌-◌, ◌*◌, ◌<◌, ◌≤◌, min}
+use Prim.Native.Nat.{ℕ, ◌+◌, ◌-◌, ◌<◌, ◌≤◌, min}
 use mathlib.Core.List.{List}
 use mathlib.Core.Bool.{Bool, true, false}
-use mathlib.Core.Path.{◌≡◌, refl, ◌∙◌}
+use mathlib.Core.Path.{◌≡◌, refl}
 use lib.ListN.{length, get_or, set}
 use lib.Seq.{get_or-set_same}
 use native.Mathlib.Omega.{arith}
-use borrow.Author.Count.{below_more}
-use Rattle.model.specs.Limits.{cells, most_doses, most_intervals, most_marks}
+use Rattle.model.specs.Limits.{most_doses, most_intervals}
 use Rattle.steps.proofs.Tests.{not_both}
-use Rattle.class_chains.specs.Chains.{cell, Seen, Unseen, given, Bounded, Kept, Exhausted, Pushed, FromDose, FromInterval}
-use Rattle.class_chains.proofs.Laws.{below_to, kept_refl, kept_trans, kept_mark, kept_write, exhausted_none, exhausted_trans, exhausted_dose, exhausted_interval}
+use Rattle.class_chains.specs.Chains.{cell, Seen, Unseen, given, Bounded, Written, Kept, Exhausted, Pushed, FromDose, FromInterval}
+use Rattle.class_chains.proofs.Laws.{kept_refl, kept_trans, kept_mark, kept_write, exhausted_none, exhausted_dose, exhausted_interval}
 use Rattle.class_chains.proofs.Laws.{dose_still, interval_still, interval_none, dose_write, interval_write, down_from, up_from}
 
 -- ---- what a loop has tried
@@ -20,8 +19,6 @@ use Rattle.class_chains.proofs.Laws.{dose_still, interval_still, interval_none, 
 -- t and y now.
 pub record Tried (rooms holds : List ℕ) (least most : ℕ) (Way : ℕ → Type 0) (to : ℕ → ℕ) (s : List Bool) (x : List ℕ) (t : List Bool) (y : List ℕ) (n : ℕ) : Type 0 where
   pub within : n ≤ most
-  pub shares : length y ≡ cells
-  pub marks : length t ≡ most_marks
   pub kept : Kept s x t y
   pub same : y ≡ x
   pub exhausted : Exhausted rooms holds least x s t
@@ -29,50 +26,14 @@ pub record Tried (rooms holds : List ℕ) (least most : ℕ) (Way : ℕ → Type
 
 module _ {rooms holds : List ℕ} {least most : ℕ} {Way : ℕ → Type 0} {to : ℕ → ℕ} {s : List Bool} {x : List ℕ} where
   -- no way was tried yet
-  pub tried_none : length x ≡ cells → length s ≡ most_marks → Tried rooms holds least most Way to s x s x 0
-  tried_none sized long = record {
+  pub tried_none : Tried rooms holds least most Way to s x s x 0
+  tried_none = record {
     within = omega arith;
-    shares = sized;
-    marks = long;
     kept = kept_refl s x;
     same = refl;
     exhausted = exhausted_none rooms holds least x s;
     passed = λ i h. absurd (let z : ⊥ = omega arith in z);
   }
-
-  module _ {t : List Bool} {y : List ℕ} {n : ℕ} (tried : Tried rooms holds least most Way to s x t y n) where
-    -- the shares are what they were
-    pub share_same : (k j : ℕ) → cell y k j ≡ cell x k j
-    share_same k j = rw tried.same
-
-    -- one way is shut or leads to a station that was seen, and the next ones are shut
-    pub tried_up_to : (r : ℕ) → r ≤ most → (Way n → Seen t (to n)) → ((i : ℕ) → n + 1 ≤ i → i < r → Way i → ⊥) → Tried rooms holds least most Way to s x t y r
-    tried_up_to r h here shut = record {
-      within = h;
-      shares = tried.shares;
-      marks = tried.marks;
-      kept = tried.kept;
-      same = tried.same;
-      exhausted = tried.exhausted;
-      passed = below_to (λ i. Way i → Seen t (to i)) n r tried.passed here (λ i g h l. absurd (shut i g h l));
-    }
-
-    -- one way is shut, or leads to a station that was seen
-    pub tried_next : n < most → (Way n → Seen t (to n)) → Tried rooms holds least most Way to s x t y (n + 1)
-    tried_next h here = tried_up_to (n + 1) (omega arith) here (λ i g h l. omega arith)
-
-    -- the search from where the way leads pushed nothing
-    pub tried_in_vain : {w a : ℕ} {u : List Bool} {z : List ℕ} → n < most → length u ≡ most_marks → Pushed rooms holds least (to n) w t y a u z → a ≡ 0 → (Way n → least ≤ w)
-        → Tried rooms holds least most Way to s x u z (n + 1)
-    tried_in_vain h long p e wide = record {
-      within = omega arith;
-      shares = rw (p.same e) tried.shares;
-      marks = long;
-      kept = kept_trans tried.kept p.kept;
-      same = p.same e ∙ tried.same;
-      exhausted = exhausted_trans tried.exhausted (rw tried.same at (p.exhausted e)) p.kept;
-      passed = below_more _ n (λ i h l. p.kept.more (to i) (tried.passed i h l)) (λ l. p.marks (wide l));
-    }
 
 -- the loop over the intervals, from dose d: a way is open where its share is below its room
 abbrev pub DoseTried : (rooms holds : List ℕ) (least d : ℕ) (s : List Bool) (x : List ℕ) (t : List Bool) (y : List ℕ) → ℕ → Type 0
@@ -81,6 +42,15 @@ DoseTried rooms holds least d s x t y j = Tried rooms holds least most_intervals
 -- the loop over the doses, from interval j: a way is open where a dose has a share
 abbrev pub IntervalTried : (rooms holds : List ℕ) (least j : ℕ) (s : List Bool) (x : List ℕ) (t : List Bool) (y : List ℕ) → ℕ → Type 0
 IntervalTried rooms holds least j s x t y d = Tried rooms holds least most_doses (λ e. least ≤ cell x e j) (λ e. e) s x t y d
+
+-- ---- the searches called, whose rooms and reserved time are the caller's
+
+module _ {rooms holds rooms' holds' : List ℕ} (same_rooms : rooms' ≡ rooms) (same_holds : holds' ≡ holds) where
+  pub dose_called : {least d w a : ℕ} {s t : List Bool} {x y : List ℕ} → FromDose rooms' holds' least d w s x a t y → FromDose rooms holds least d w s x a t y
+  dose_called p = rw (same_rooms, same_holds) at p
+
+  pub interval_called : {least j w a : ℕ} {s t : List Bool} {x y : List ℕ} → FromInterval rooms' holds' least j w s x a t y → FromInterval rooms holds least j w s x a t y
+  interval_called p = rw (same_rooms, same_holds) at p
 
 -- ---- what both searches promise
 
@@ -135,29 +105,28 @@ module _ {rooms holds : List ℕ} {least d : ℕ} {s : List Bool} {x : List ℕ}
       up = dose_still d new.bounded tried.same;
     }
 
-    module _ {w room a : ℕ} {u : List Bool} {z : List ℕ} (hj : j < most_intervals) (free : room ≡ cell rooms d j - cell y d j) (capped : w ≡ min want room)
+    module _ {w a : ℕ} (room : ℕ) {u : List Bool} {z : List ℕ} (hj : j < most_intervals) (free : room + cell y d j ≡ cell rooms d j) (capped : w ≡ min want room)
         (called : FromInterval rooms holds least j w t y a u z) (some : 0 < a) where
       -- what is pushed fits the room of the dose
       pub dose_fits_lem : cell z d j + a ≤ cell rooms d j
       dose_fits_lem = omega (arith, called.pushed.within, called.pushed.kept.doses d j hd hj (tried_seen new tried))
 
       -- the dose takes what the interval found
-      pub dose_pushes : length z ≡ cells → FromDose rooms holds least d want s x a u (set z (d * most_intervals + j) (cell z d j + a))
-      dose_pushes sized =
+      pub dose_pushes : {y' : List ℕ} → Written d j (cell z d j + a) z y' → FromDose rooms holds least d want s x a u y'
+      dose_pushes wrote =
           let kept : Kept s x t y = tried_kept new tried in
           record {
             pushed = pushed_some new.unseen
-                (kept_write d j (cell z d j + a) hd hj (kept_trans kept called.pushed.kept) (λ h. not_both h new.unseen)
-                (λ h. omega (arith, called.pushed.none (kept.more (most_doses + j) h))))
+                (kept_write (kept_trans kept called.pushed.kept) wrote (λ h. not_both h new.unseen) (λ h. omega (arith, called.pushed.none (kept.more (most_doses + j) h))))
                 (called.pushed.kept.more d (tried_seen new tried)) (omega (arith, called.pushed.within)) some;
-            up = dose_write d j a hd hj sized (down_from tried.same called.down) dose_fits_lem;
+            up = dose_write d j a hd hj (down_from tried.same called.down) dose_fits_lem wrote;
           }
 
 -- ---- the search from an interval
 
 module _ {rooms holds : List ℕ} {least j : ℕ} {s : List Bool} {x : List ℕ} (want : ℕ) (hj : j < most_intervals) where
   module _ (new : New rooms holds s x (most_doses + j)) where
-    module _ {held spare : ℕ} (total : held ≡ given x j) (left : spare ≡ get_or holds j 0 - held) where
+    module _ (spare : ℕ) (left : spare + given x j ≡ get_or holds j 0) where
       -- the interval has spare time
       pub interval_spares : {a : ℕ} → a ≡ min want spare → 0 < a → FromInterval rooms holds least j want s x a (set s (most_doses + j) true) x
       interval_spares capped some = record {
@@ -180,12 +149,12 @@ module _ {rooms holds : List ℕ} {least j : ℕ} {s : List Bool} {x : List ℕ}
       interval_has = omega (arith, called.pushed.within, called.pushed.kept.intervals d j hd hj (tried_seen new tried))
 
       -- the dose gives it back
-      pub interval_pushes : 0 < a → length z ≡ cells → FromInterval rooms holds least j want s x a u (set z (d * most_intervals + j) (cell z d j - a))
-      interval_pushes some sized =
+      pub interval_pushes : {y' : List ℕ} → 0 < a → Written d j (cell z d j - a) z y' → FromInterval rooms holds least j want s x a u y'
+      interval_pushes some wrote =
           let kept : Kept s x t y = tried_kept new tried in
           record {
             pushed = pushed_some new.unseen
-                (kept_write d j (cell z d j - a) hd hj (kept_trans kept called.pushed.kept) (λ h. omega (arith, called.pushed.none (kept.more d h))) (λ h. not_both h new.unseen))
+                (kept_write (kept_trans kept called.pushed.kept) wrote (λ h. omega (arith, called.pushed.none (kept.more d h))) (λ h. not_both h new.unseen))
                 (called.pushed.kept.more (most_doses + j) (tried_seen new tried)) (omega (arith, called.pushed.within)) some;
-            down = interval_write d j a hd hj sized (up_from tried.same called.up) interval_has;
+            down = interval_write d j a hd hj (up_from tried.same called.up) interval_has wrote;
           }

@@ -1,7 +1,7 @@
 -- Shares of up to 24 doses in up to 47 intervals, in one array, and what the searches that raise them promise (document 01, "From classes to
 -- slots"). The stations of a chain are the doses, 0 to 23, and the intervals, 24 to 70.
-use Rattle.std.specs.Prelude.{ℕ, suc, ◌+◌, ◌*◌, ◌<◌, ◌≤◌, List, [], ◌∷◌, Bool, true, false, ◌≡◌, ◌≢◌, length, get_or}
-use Rattle.model.specs.Limits.{cells, most_doses, most_intervals}
+use Rattle.std.specs.Prelude.{ℕ, suc, ◌+◌, ◌*◌, ◌<◌, ◌≤◌, List, [], ◌∷◌, Bool, true, false, ◌≡◌, ◌≢◌, get_or}
+use Rattle.model.specs.Limits.{most_doses, most_intervals}
 use Rattle.model.specs.Sets.{sum}
 
 -- how many stations are not yet seen
@@ -30,16 +30,16 @@ got x k = sum most_intervals (λ j. cell x k j)
 unfoldable pub given : List ℕ → ℕ → ℕ
 given x j = sum most_doses (λ k. cell x k j)
 
--- the arrays have their lengths
-pub record Sized (x r h : List ℕ) : Type 0 where
-  pub shares : length x ≡ cells
-  pub rooms : length r ≡ cells
-  pub holds : length h ≡ most_intervals
-
 -- every share is within its room, and every interval within its reserved time
 pub record Bounded (rooms holds x : List ℕ) : Type 0 where
   pub roomy : (k j : ℕ) → k < most_doses → j < most_intervals → cell x k j ≤ cell rooms k j
   pub held : (j : ℕ) → j < most_intervals → given x j ≤ get_or holds j 0
+
+-- the cell of dose d and interval j holds v, and the others what they held: x before, y after
+pub record Written (d j v : ℕ) (x y : List ℕ) : Type 0 where
+  pub own : cell y d j ≡ v
+  pub doses : (e i : ℕ) → i < most_intervals → e ≢ d → cell y e i ≡ cell x e i
+  pub intervals : (e i : ℕ) → i < most_intervals → i ≢ j → cell y e i ≡ cell x e i
 
 -- a search leaves the shares of stations that were seen before it alone: s and x before it, t and y after
 pub record Kept (s : List Bool) (x : List ℕ) (t : List Bool) (y : List ℕ) : Type 0 where
