@@ -1,0 +1,14 @@
+use Rattle.class_shares.specs.Sharings.{Reshared}
+use Rattle.class_shares.proofs.Laws.{Passed}
+use Rattle.class_shares.proofs.Sharing.raise.Given as goal
+
+abbrev pub invariant-loop-least : goal.invariant-loop-least
+invariant-loop-least l =
+    let f = l.initial.self.fill in
+    record {
+      reshared : Reshared l.initial.self l.self;
+      passed : Passed f.rooms.now f.holds.now l.initial.self.needs.now l.top l.least l.dead l.self.fill.shares.now;
+    }
+
+abbrev pub decreases-loop-least : goal.decreases-loop-least
+decreases-loop-least l = l.least
