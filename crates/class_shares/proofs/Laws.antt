@@ -1,10 +1,9 @@
 -- Laws of shares that are raised dose by dose, and of the first shares. Assumes nothing.
-use Prim.Native.Nat.{ℕ, zero, suc, ◌+◌, ◌-◌, ◌*◌, ◌<◌, ◌≤◌, min}
+use Prim.Native.Nat.{ℕ, ◌+◌, ◌-◌, ◌*◌, ◌<◌, ◌≤◌, min}
 use mathlib.Core.List.{List}
 use mathlib.Core.Bool.{Bool, false}
-use mathlib.Core.Logic.{◌≢◌}
-use mathlib.Core.Path.{◌≡◌, refl}
-use lib.ListN.{get_or, replicate}
+use mathlib.Core.Path.{◌≡◌}
+use lib.ListN.{get_or}
 use native.Mathlib.Omega.{arith}
 use Rattle.model.specs.Limits.{cells, most_doses, most_intervals}
 use Rattle.model.proofs.Sums.{sum_congr, sum_zero}
@@ -27,11 +26,6 @@ dead_step {s = s} k p d = record {
   intervals = λ e j he hj i h. known (get_or s (most_doses + j) false) (λ m. k.more e (d.intervals e j he hj m (omega (arith, k.intervals e j he hj m)))) (λ m. p.intervals e j he hj m i h);
 }
 
-pub all_false : (n k : ℕ) → Unseen (replicate n false) k
-all_false zero k = refl
-all_false (suc n) zero = refl
-all_false (suc n) (suc k) = all_false n k
-
 pub raised_none : {rooms holds needs x : List ℕ} {s : List Bool} (least : ℕ) → ((k : ℕ) → Unseen s k) → Within rooms holds needs x → Raised rooms holds needs least 0 s x
 raised_none least off g = record {
   within = g;
@@ -53,21 +47,6 @@ raised_step least d p f hd = record {
   dead = dead_step f.kept f.exhausted p.dead;
   met = λ k hk h. alike k d (λ q. rw q (f.met (rw q at h))) (λ q. f.kept.more k (p.met k (omega arith) (omega (arith, f.others k (omega arith) q))));
 }
-
--- ---- one dose
-
--- dose d is raised so far: x at the start, y now. What is dead, s, was left alone.
-pub record DoseRising (rooms holds : List ℕ) (d need : ℕ) (s : List Bool) (x y : List ℕ) : Type 0 where
-  pub bounded : Bounded rooms holds y
-  pub own : got y d ≤ need
-  pub others : (k : ℕ) → k < most_doses → k ≢ d → got y k ≡ got x k
-  pub kept : Kept s x s y
-
--- the last pass so far had the threshold `least`
-pub record Passed (rooms holds needs : List ℕ) (top least : ℕ) (s : List Bool) (x : List ℕ) : Type 0 where
-  pub some : 1 ≤ least
-  pub fallen : least ≤ top
-  pub raised : Raised rooms holds needs least most_doses s x
 
 -- ---- first shares
 
