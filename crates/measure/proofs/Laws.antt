@@ -12,7 +12,10 @@ use Rattle.model.specs.Classes.{Setting, Row, P, open_fans}
 use Rattle.model.proofs.Same.{Agree, fans_same, W-same, time_same}
 use Rattle.model.proofs.Sets.{Alike, on_below, weight_alike}
 use Rattle.model.proofs.Sums.{sum_congr}
-use Rattle.measure.specs.Arrays.{set_of, len_of, setting_by, Below, OrderArrays}
+use Rattle.order.specs.declared.Order.{Order}
+use Rattle.interval.specs.declared.Instants.{Instants}
+use Rattle.interval.specs.Held.{span_in}
+use Rattle.measure.specs.Arrays.{set_of, grams_of, intervals_of, setting_by, Below, OrderArrays}
 use Rattle.measure.specs.Measure.{Opens, Measured}
 
 -- ---- W and P fit
@@ -22,39 +25,39 @@ unfolding sum
 sum_most zero b f h = omega arith
 sum_most (suc n) b f h = omega (arith, sum_most n b f (λ k l. h k (omega arith)), h n (omega arith))
 
-module _ {n J : ℕ} {release deadline instants : List ℕ} {active : List Bool} {lens grams : List ℕ} (arrays : OrderArrays n J release deadline instants active lens grams) where
-  pub W-most : (A : Doses) → weight n (λ k. get_or grams k 0) A ≤ most_weight
+module _ {o : Order} {s : Instants} {active : List Bool} {lens grams : List ℕ} (arrays : OrderArrays o s active lens grams) where
+  pub W-most : (A : Doses) → weight o.count (grams_of o) A ≤ most_weight
   unfolding weight
   W-most A =
-      omega (arith, arrays.few_doses, sum_most n most_grams (λ k. on (A k) (get_or grams k 0)) (λ k l. omega (arith, on_below (A k) (get_or grams k 0), arrays.light k)))
+      omega (arith, arrays.few_doses, sum_most o.count most_grams (λ k. on (A k) (grams_of o k)) (λ k l. omega (arith, on_below (A k) (grams_of o k), arrays.same.grams k l, arrays.light k)))
 
-  pub time_most : (fans : List ℕ) → Below most_doses fans → sum J (λ j. len_of instants j * get_or fans j 0) ≤ 1000000000
+  pub time_most : (fans : List ℕ) → Below most_doses fans → sum (intervals_of s) (λ j. span_in s j * get_or fans j 0) ≤ 1000000000
   time_most fans small =
-      omega (arith, arrays.few_intervals, sum_most J 14515200 (λ j. len_of instants j * get_or fans j 0) (λ j l. omega (arith, mul-le-mul (short j l) (small j))))
+      omega (arith, arrays.few_intervals, sum_most (intervals_of s) 14515200 (λ j. span_in s j * get_or fans j 0) (λ j l. omega (arith, mul-le-mul (short j l) (small j))))
     where
-      short : (j : ℕ) → j < J → len_of instants j ≤ week
+      short : (j : ℕ) → j < intervals_of s → span_in s j ≤ week
       short j l = omega (arith, arrays.same.len j l, arrays.short j)
 
 -- ---- what is worked out in the arrays is what a set weighs and opens
 
 -- the array marks the set A, and `free` has the fans of the row
-module _ (n J : ℕ) (release deadline grams instants : List ℕ) (A : Doses) (set : List Bool) (marked : Alike n (set_of set) A)
-    (row : Row) (free : List ℕ) (left : (j : ℕ) → j < J → get_or free j 0 ≡ row j) (open-fans : List ℕ) (w p : ℕ)
-    (opened : Opens release deadline instants n J set free open-fans) (weighs : w ≡ weight n (λ k. get_or grams k 0) (set_of set))
-    (lasts : p ≡ sum J (λ j. len_of instants j * get_or open-fans j 0)) where
+module _ (o : Order) (s : Instants) (A : Doses) (set : List Bool) (marked : Alike o.count (set_of set) A)
+    (row : Row) (free : List ℕ) (left : (j : ℕ) → j < intervals_of s → get_or free j 0 ≡ row j) (open-fans : List ℕ) (w p : ℕ)
+    (opened : Opens o s set free open-fans) (weighs : w ≡ weight o.count (grams_of o) (set_of set))
+    (lasts : p ≡ sum (intervals_of s) (λ j. span_in s j * get_or open-fans j 0)) where
   abbrev S : Setting
-  S = setting_by n J release deadline grams instants
+  S = setting_by o s
 
-  fans : (j : ℕ) → j < J → get_or open-fans j 0 ≡ open_fans S row A j
+  fans : (j : ℕ) → j < intervals_of s → get_or open-fans j 0 ≡ open_fans S row A j
   unfolding open_fans
-  fans j l = opened.smaller j l ∙ ap₂ min (weight_alike n _ (set_of set) A marked) (left j l)
+  fans j l = opened.smaller j l ∙ ap₂ min (weight_alike o.count _ (set_of set) A marked) (left j l)
 
   time : p ≡ P S row A
   unfolding P
-  time = lasts ∙ sum_congr J (λ j l. ap (λ (y : ℕ). len_of instants j * y) (fans j l))
+  time = lasts ∙ sum_congr (intervals_of s) (λ j l. ap (λ (y : ℕ). span_in s j * y) (fans j l))
 
   pub measured : Measured S row A w p open-fans
-  measured = record { weight = weighs ∙ weight_alike n _ (set_of set) A marked; time = time; fans = fans; no_fans = λ j g q. opened.none j g }
+  measured = record { weight = weighs ∙ weight_alike o.count _ (set_of set) A marked; time = time; fans = fans; no_fans = λ j g q. opened.none j g }
 
 -- and so in a setting that agrees
 pub measured_same : (S S' : Setting) → Agree S S' → {row : Row} {A : Doses} {w p : ℕ} {open-fans : List ℕ}

@@ -22,22 +22,22 @@ use Rattle.order.proofs.Fields.{doses_is, dose_is, few_doses}
 use Rattle.interval.specs.declared.Instants.{Instants}
 use Rattle.interval.specs.Held.{InstantsOf, active_in}
 use Rattle.interval.proofs.Laws.{count_is, span_is, active_is}
-use Rattle.measure.specs.Arrays.{ActiveIn, GramsIn, LensIn, active_of, setting_from, OrderArrays}
+use Rattle.measure.specs.Arrays.{ActiveIn, GramsIn, LensIn, active_of, intervals_of, setting_from, OrderArrays}
 use Rattle.steps.proofs.Tests.{and_false}
 
-module _ (o : Order) (fit : Fit (as_order o)) (s : Instants) (of : InstantsOf o s) (J : ℕ) (e_j : J ≡ s.count - 1) (active : List Bool) (lens grams : List ℕ)
-    (ha : ActiveIn o s J active) (hl : LensIn s lens) (hg : GramsIn o grams) where
-  intervals_is : J ≡ interval_count (as_order o)
-  intervals_is = e_j ∙ ap (λ (m : ℕ). m - 1) (count_is o s of)
+module _ (o : Order) (fit : Fit (as_order o)) (s : Instants) (of : InstantsOf o s) (active : List Bool) (lens grams : List ℕ)
+    (ha : ActiveIn o s (intervals_of s) active) (hl : LensIn s lens) (hg : GramsIn o grams) where
+  intervals_is : intervals_of s ≡ interval_count (as_order o)
+  intervals_is = ap (λ (m : ℕ). m - 1) (count_is o s of)
 
-  few_spans : J ≤ most_intervals
+  few_spans : intervals_of s ≤ most_intervals
   few_spans = omega (arith, intervals_is, few_intervals (as_order o) fit)
 
-  active_at_lem : (k j : ℕ) → k < most_doses → j < most_intervals → active_of active k j ≡ (ltb k o.count && (ltb j J && active_in o s k j))
+  active_at_lem : (k j : ℕ) → k < most_doses → j < most_intervals → active_of active k j ≡ (ltb k o.count && (ltb j (intervals_of s) && active_in o s k j))
   active_at_lem k j hk hj =
       ha (k * most_intervals + j) (omega arith)
-      ∙ ap (λ (m : ℕ). ltb m o.count && (ltb ((k * most_intervals + j) % most_intervals) J && active_in o s m ((k * most_intervals + j) % most_intervals))) (digits_div k hj)
-      ∙ ap (λ (m : ℕ). ltb k o.count && (ltb m J && active_in o s k m)) (digits_mod k hj)
+      ∙ ap (λ (m : ℕ). ltb m o.count && (ltb ((k * most_intervals + j) % most_intervals) (intervals_of s) && active_in o s m ((k * most_intervals + j) % most_intervals))) (digits_div k hj)
+      ∙ ap (λ (m : ℕ). ltb k o.count && (ltb m (intervals_of s) && active_in o s k m)) (digits_mod k hj)
 
   span_at : (j : ℕ) → j < most_intervals → get_or lens j 0 ≡ (setting_of (as_order o)).len j
   span_at j q = hl.intervals j q ∙ span_is o s of j
@@ -46,25 +46,25 @@ module _ (o : Order) (fit : Fit (as_order o)) (s : Instants) (of : InstantsOf o 
   grams_at k q = hg.doses k q ∙ ap (λ (d : model.Dose). d.grams) (dose_is o k q)
 
   -- their setting is the order's
-  pub agree : Agree (setting_from o.count J active lens grams) (setting_of (as_order o))
+  pub agree : Agree (setting_from o.count (intervals_of s) active lens grams) (setting_of (as_order o))
   agree = record {
     doses = doses_is o;
     intervals = intervals_is;
     active = λ k j q m. active_at_lem k j (omega (arith, few_doses o fit)) (omega (arith, few_spans))
-        ∙ rw (lt-ltb k o.count q, lt-ltb j J m) (active_is o s of k j q);
+        ∙ rw (lt-ltb k o.count q, lt-ltb j (intervals_of s) m) (active_is o s of k j q);
     len = λ j m. span_at j (omega (arith, few_spans));
     grams = grams_at;
   }
 
   -- the table and the lengths are those of its windows and instants; the numbers fit, and nothing stands past the doses and the intervals
-  pub arrays : OrderArrays o.count J o.release o.deadline s.at active lens grams
+  pub arrays : OrderArrays o s active lens grams
   arrays = record {
     same = record {
       doses = refl;
       intervals = refl;
-      active = λ k j q m. sym (active_at_lem k j (omega (arith, few_doses o fit)) (omega (arith, few_spans)) ∙ rw (lt-ltb k o.count q, lt-ltb j J m));
+      active = λ k j q m. sym (active_at_lem k j (omega (arith, few_doses o fit)) (omega (arith, few_spans)) ∙ rw (lt-ltb k o.count q, lt-ltb j (intervals_of s) m));
       len = λ j m. sym (hl.intervals j (omega (arith, few_spans)));
-      grams = λ k q. refl;
+      grams = λ k q. sym (hg.doses k q);
     };
     few_doses = few_doses o fit;
     few_intervals = few_spans;
@@ -73,5 +73,5 @@ module _ (o : Order) (fit : Fit (as_order o)) (s : Instants) (of : InstantsOf o 
     heavy = λ k q. omega (arith, grams_at k q, fit.some_grams k (omega (arith, doses_is o)));
     no_grams = hg.past;
     no_dose = λ k j h l q. active_at_lem k j l q ∙ rw (le-ltb k o.count h);
-    no_interval = λ k j l h q. active_at_lem k j l q ∙ rw (le-ltb j J h) (and_false (ltb k o.count));
+    no_interval = λ k j l h q. active_at_lem k j l q ∙ rw (le-ltb j (intervals_of s) h) (and_false (ltb k o.count));
   }

@@ -9,7 +9,7 @@ use Rattle.order.specs.declared.Order.{Order}
 use Rattle.interval.specs.declared.Instants.{Instants}
 use Rattle.steps.proofs.Arrays.{filled_one, places_one}
 use Rattle.steps.proofs.Tests.{below_or}
-use Rattle.measure.specs.Arrays.{ActiveIn, GramsIn, LensIn, sets_of}
+use Rattle.measure.specs.Arrays.{ActiveIn, GramsIn, LensIn, intervals_of, sets_of}
 use Rattle.measure.specs.Measure.{Opens}
 
 -- ---- an order in arrays
@@ -30,7 +30,7 @@ pub set_one : (numbers : List ℕ) (i : ℕ) {r r' : List Bool} → length r ≡
     → ((k : ℕ) → k < most_doses → get_or r k false ≡ sets_of numbers i k) → ((k : ℕ) → k < most_doses → get_or r' k false ≡ sets_of numbers i k) → r ≡ r'
 set_one numbers i l l' a b = filled_one false most_doses l l' a b
 
-pub opens_one : (release deadline instants : List ℕ) (n J : ℕ) (set : List Bool) (free : List ℕ) {r r' : List ℕ} → length r ≡ most_intervals → length r' ≡ most_intervals
-    → Opens release deadline instants n J set free r → Opens release deadline instants n J set free r' → r ≡ r'
-opens_one release deadline instants n J set free l l' a b =
-    places_one 0 most_intervals l l' (λ j q. below_or j J (λ h. a.smaller j h ∙ sym (b.smaller j h)) (λ h. a.none j h ∙ sym (b.none j h)))
+pub opens_one : (o : Order) (s : Instants) (set : List Bool) (free : List ℕ) {r r' : List ℕ} → length r ≡ most_intervals → length r' ≡ most_intervals
+    → Opens o s set free r → Opens o s set free r' → r ≡ r'
+opens_one o s set free l l' a b =
+    places_one 0 most_intervals l l' (λ j q. below_or j (intervals_of s) (λ h. a.smaller j h ∙ sym (b.smaller j h)) (λ h. a.none j h ∙ sym (b.none j h)))

@@ -1,18 +1,27 @@
 -- The arrays in which classes are found: what stands in them, and the setting that they stand for.
-use Rattle.std.specs.Prelude.{◌≡◌, Bool, false, ◌&&◌, List, ℕ, ◌+◌, ◌-◌, ◌*◌, ◌/◌, ◌%◌, ◌<◌, ◌≤◌, eqb, leb, ltb, get_or}
+use Rattle.std.specs.Prelude.{◌≡◌, Bool, false, ◌&&◌, List, ℕ, ◌+◌, ◌-◌, ◌*◌, ◌/◌, ◌%◌, ◌<◌, ◌≤◌, eqb, ltb, get_or}
 use Rattle.model.specs.Limits.{cells, most_doses, most_grams, most_intervals, week}
 use Rattle.model.specs.Sets.{Doses}
 use Rattle.model.specs.Classes.{Setting, Row}
 use Rattle.model.proofs.Same.{Agree}
 use Rattle.order.specs.declared.Order.{Order}
+use Rattle.order.specs.Held.{dose_held}
 use Rattle.interval.specs.declared.Instants.{Instants}
 use Rattle.interval.specs.Held.{span_in, active_in}
 
 -- ---- the arrays of an order
 
+-- what dose k weighs
+abbrev pub grams_of : Order → ℕ → ℕ
+grams_of o k = (dose_held o k).grams
+
+-- how many intervals the instants bound
+abbrev pub intervals_of : Instants → ℕ
+intervals_of s = s.count - 1
+
 -- the grams of each dose, and zeros past the doses
 pub record GramsIn (o : Order) (grams : List ℕ) : Type 0 where
-  pub doses : (k : ℕ) → k < o.count → get_or grams k 0 ≡ get_or o.grams k 0
+  pub doses : (k : ℕ) → k < o.count → get_or grams k 0 ≡ grams_of o k
   pub past : (k : ℕ) → o.count ≤ k → get_or grams k 0 ≡ 0
 
 -- the length of each interval, and zeros past the array
@@ -47,29 +56,17 @@ row_of fans j = get_or fans j 0
 abbrev pub Below : ℕ → List ℕ → Type 0
 Below b l = (i : ℕ) → get_or l i 0 ≤ b
 
--- "A dose is active in an interval that lies within its window [release, deadline).": interval j, by the instants that bound it
-abbrev pub in_window : ℕ → ℕ → List ℕ → ℕ → Bool
-in_window release deadline instants j = leb release (get_or instants j 0) && leb (get_or instants (j + 1) 0) deadline
-
--- dose k is active in interval j
-abbrev pub reaches : List ℕ → List ℕ → List ℕ → ℕ → ℕ → Bool
-reaches release deadline instants k = in_window (get_or release k 0) (get_or deadline k 0) instants
-
--- the length of interval j
-abbrev pub len_of : List ℕ → ℕ → ℕ
-len_of instants j = get_or instants (j + 1) 0 - get_or instants j 0
-
--- the setting of n doses and J intervals that an order's own arrays stand for
-abbrev pub setting_by : ℕ → ℕ → List ℕ → List ℕ → List ℕ → List ℕ → Setting
-setting_by n J release deadline grams instants = record {
-  doses = n;
-  intervals = J;
-  active = reaches release deadline instants;
-  len = len_of instants;
-  grams = λ k. get_or grams k 0;
+-- the setting that an order and its instants stand for
+abbrev pub setting_by : Order → Instants → Setting
+setting_by o s = record {
+  doses = o.count;
+  intervals = intervals_of s;
+  active = active_in o s;
+  len = span_in s;
+  grams = grams_of o;
 }
 
--- the same with a table of which dose is active where, and the lengths in an array
+-- that of n doses and J intervals, with a table of which dose is active where, and the lengths and grams in arrays
 abbrev pub setting_from : ℕ → ℕ → List Bool → List ℕ → List ℕ → Setting
 setting_from n J active lens grams = record {
   doses = n;
@@ -81,13 +78,13 @@ setting_from n J active lens grams = record {
 
 -- the table and the lengths are those of the windows and the instants; the numbers fit, every dose weighs, and nothing stands past the doses
 -- and the intervals
-pub record OrderArrays (n J : ℕ) (release deadline instants : List ℕ) (active : List Bool) (lens grams : List ℕ) : Type 0 where
-  pub same : Agree (setting_by n J release deadline grams instants) (setting_from n J active lens grams)
-  pub few_doses : n ≤ most_doses
-  pub few_intervals : J ≤ most_intervals
+pub record OrderArrays (o : Order) (s : Instants) (active : List Bool) (lens grams : List ℕ) : Type 0 where
+  pub same : Agree (setting_by o s) (setting_from o.count (intervals_of s) active lens grams)
+  pub few_doses : o.count ≤ most_doses
+  pub few_intervals : intervals_of s ≤ most_intervals
   pub short : Below week lens
   pub light : Below most_grams grams
-  pub heavy : (k : ℕ) → k < n → 1 ≤ get_or grams k 0
-  pub no_grams : (k : ℕ) → n ≤ k → get_or grams k 0 ≡ 0
-  pub no_dose : (k j : ℕ) → n ≤ k → k < most_doses → j < most_intervals → active_of active k j ≡ false
-  pub no_interval : (k j : ℕ) → k < most_doses → J ≤ j → j < most_intervals → active_of active k j ≡ false
+  pub heavy : (k : ℕ) → k < o.count → 1 ≤ get_or grams k 0
+  pub no_grams : (k : ℕ) → o.count ≤ k → get_or grams k 0 ≡ 0
+  pub no_dose : (k j : ℕ) → o.count ≤ k → k < most_doses → j < most_intervals → active_of active k j ≡ false
+  pub no_interval : (k j : ℕ) → k < most_doses → intervals_of s ≤ j → j < most_intervals → active_of active k j ≡ false

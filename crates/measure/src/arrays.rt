@@ -1,61 +1,67 @@
 // An order's doses and intervals in arrays, with nothing past the last dose and the last interval.
 ghost use Rattle.std.specs.Prelude.{◌≡◌, ◌&&◌, ◌<◌, ◌≤◌, ltb};
 ghost use Rattle.model.specs.Limits.{most_doses, most_intervals};
-ghost use Rattle.interval.specs.Held.{active_in};
-ghost use Rattle.measure.specs.Arrays.{GramsIn, LensIn, ActiveIn};
+ghost use Rattle.model.proofs.Orders.{Fit};
+ghost use Rattle.order.specs.Held.{as_order};
+ghost use Rattle.interval.specs.Held.{InstantsOf, active_in};
+ghost use Rattle.measure.specs.Arrays.{GramsIn, LensIn, ActiveIn, OrderArrays, intervals_of};
 
-use interval::Instants;
+use interval::{Instants, interval_count, span};
 use order::Order;
+use std::array;
 use steps::limits::{CELLS, MOST_DOSES, MOST_INTERVALS};
-use steps::wide;
 
-pub fn grams_in(o: Order) -> [u32; MOST_DOSES]
-    requires { o.count ≤ most_doses }
-    ensures { GramsIn o result }
+pub fn grams_in(o: &Order) -> [u32; MOST_DOSES]
+    requires { o.now.count ≤ most_doses }
+    ensures { GramsIn o.now result }
 {
-    let mut grams = [0u32; MOST_DOSES];
-    let mut k = 0;
-    while k < o.count {
-        grams[k] = o.grams[k];
-        k += 1;
-    }
-    grams
+    array::from_fn(|k| if k < o.count { o.dose(k).grams } else { 0 })
 }
 
-pub fn lens_in(s: Instants) -> [u64; MOST_INTERVALS]
-    ensures { LensIn s result }
+pub fn lens_in(s: &Instants) -> [u64; MOST_INTERVALS]
+    ensures { LensIn s.now result }
 {
-    let mut lens = [0u64; MOST_INTERVALS];
-    let mut j = 0;
-    while j < MOST_INTERVALS {
-        lens[j] = wide(interval::span(s, j));
-        j += 1;
-    }
-    lens
+    array::from_fn(|j| u64::from(span(*s, j)))
 }
 
 // Dose k is active in interval j: both are there, and the window reaches over the interval.
-fn active_at(o: Order, s: Instants, intervals: usize, k: usize, j: usize) -> bool
+fn active_at(o: &Order, s: &Instants, intervals: usize, k: usize, j: usize) -> bool
     requires { (k < most_doses) × (j < most_intervals) }
-    ensures { result ≡ (ltb k o.count && (ltb j intervals && active_in o s k j)) }
+    ensures { result ≡ (ltb k o.now.count && (ltb j intervals && active_in o.now s.now k j)) }
 {
-    if o.count <= k {
-        return false;
-    }
-    if intervals <= j {
-        return false;
-    }
-    interval::active(o, s, k, j)
+    k < o.count && j < intervals && interval::active(*o, *s, k, j)
 }
 
-pub fn active_in_order(o: Order, s: Instants, intervals: usize) -> [bool; CELLS]
-    ensures { ActiveIn o s intervals result }
+pub fn active_in_order(o: &Order, s: &Instants, intervals: usize) -> [bool; CELLS]
+    ensures { ActiveIn o.now s.now intervals result }
 {
-    let mut active = [false; CELLS];
-    let mut i = 0;
-    while i < CELLS {
-        active[i] = active_at(o, s, intervals, i / MOST_INTERVALS, i % MOST_INTERVALS);
-        i += 1;
+    array::from_fn(|i| active_at(o, s, intervals, i / MOST_INTERVALS, i % MOST_INTERVALS))
+}
+
+// What the classes of an order are found by: the order and its instants; which dose is active in which interval, dose k in interval j at
+// k * 47 + j; how long each interval is; what each dose weighs.
+#[derive(Drop)]
+pub struct Setting {
+    pub order: Order,
+    pub instants: Instants,
+    pub active: [bool; CELLS],
+    pub lens: [u64; MOST_INTERVALS],
+    pub grams: [u32; MOST_DOSES],
+    ghost arrays: { OrderArrays order instants active lens grams },
+}
+
+impl Setting {
+    // The setting of an order with its instants.
+    pub fn of(o: &Order, s: &Instants) -> Self
+        requires { Fit (as_order o.now) × InstantsOf o.now s.now }
+        ensures { (result.order ≡ o.now) × (result.instants ≡ s.now) × ActiveIn o.now s.now (intervals_of s.now) result.active × LensIn s.now result.lens × GramsIn o.now result.grams }
+    {
+        Setting {
+            order: *o,
+            instants: *s,
+            active: active_in_order(o, s, interval_count(*s)),
+            lens: lens_in(s),
+            grams: grams_in(o),
+        }
     }
-    active
 }

@@ -1,6 +1,6 @@
 use mathlib.Core.List.{List}
 use mathlib.Core.Path.{◌≡◌}
-use Prim.Native.Nat.{ℕ, ◌-◌, ◌<◌, ◌≤◌, ◌^◌}
+use Prim.Native.Nat.{ℕ, ◌<◌, ◌^◌}
 use Rattle.model.specs.Sets.{weight}
 use Rattle.measure.specs.Arrays.{sets_of}
 use Rattle.measure.proofs.first_set.Given as goal
@@ -12,7 +12,4 @@ pub record NumberTo (numbers : List ℕ) (k sum bit : ℕ) : Type 0 where
   pub below : sum < bit
 
 abbrev pub invariant-loop-k : goal.invariant-loop-k
-invariant-loop-k l = (l.k ≤ l.doses) × NumberTo l.numbers l.k l.sum l.bit
-
-abbrev pub decreases-loop-k : goal.decreases-loop-k
-decreases-loop-k l = l.doses - l.k
+invariant-loop-k l = NumberTo l.numbers l.k l.sum l.bit

@@ -1,17 +1,7 @@
--- `set_of` meets its contract: every dose passed is marked where its number is that of the class.
-use Prim.Native.Nat.{ℕ, ◌+◌}
-use mathlib.Core.Path.{refl, ap}
-use lib.Dec.{eqb}
-use native.Mathlib.Omega.{arith}
-use Rattle.steps.proofs.Loops.{done_none, done_next, done_all}
+-- `set_of` meets its contract: every dose is marked where its number is that of the class.
+use mathlib.Core.Bool.{false}
+use Rattle.measure.proofs.Made.{two_same, made}
 use Rattle.measure.proofs.set_of.Goals as goal
 
-pub loop-k-init : goal.loop-k-init
-loop-k-init c = done_none refl
-
--- the number read is the dose's
-pub loop-k-preserved : goal.loop-k-preserved
-loop-k-preserved c = done_next c.loop-k.invariant (omega arith) (ap (λ (n : ℕ). eqb n (c.args.i + 1)) c.index.ensures.0)
-
 pub returns : goal.returns
-returns c = done_all c.loop-k.invariant (omega arith)
+returns c = λ k l. let z = (made _ (λ f i y f' h. two_same h.met.1.0 h.met.1.1) _ _ _ c.from_fn.ensures.items k false l).met in cc
