@@ -8,28 +8,20 @@ use native.Mathlib.Omega.{arith}
 use lib.Arith.{digits_div, digits_mod}
 use borrow.Author.Tests.{lt-ltb, le-ltb}
 use lib.Dec.{T, ltb}
-use lib.ListN.{length, get_or, set, get_or-eq_default}
+use lib.ListN.{length, get_or, get_or-eq_default}
 use Rattle.model.specs.Limits.{most_doses, most_intervals}
 use Rattle.model.specs.Sets.{on, Doses, Nonempty}
 use Rattle.model.proofs.Fractions.{compare≤}
 use Rattle.model.proofs.Sets.{Alike}
-use Rattle.steps.proofs.Loops.{stored}
 use Rattle.steps.proofs.Tests.{and_false}
 use Rattle.measure.specs.Arrays.{set_of}
-use Rattle.class_rounds.specs.Rounds.{RoomsTo, NonePast}
+use Rattle.class_rounds.specs.Rounds.{NonePast}
 
 -- a room by dose and interval, and by its place
 pub room_place : (active set : List Bool) (lens : List ℕ) (w k j : ℕ) → j < most_intervals
     → on (get_or set k false) (on (get_or active (k * most_intervals + j) false) (get_or lens j 0 * w))
     ≡ on (get_or set ((k * most_intervals + j) / most_intervals) false) (on (get_or active (k * most_intervals + j) false) (get_or lens ((k * most_intervals + j) % most_intervals) 0 * w))
 room_place active set lens w k j h = rw (digits_div k h, digits_mod k h)
-
--- one room more, that of dose k in interval j
-pub rooms_next : (active members : List Bool) (lens rooms : List ℕ) (w k j : ℕ) {here room : ℕ} → j < most_intervals → k * most_intervals + j < length rooms
-    → RoomsTo active lens members w (k * most_intervals + j) rooms → here ≡ on (get_or active (k * most_intervals + j) false) (get_or lens j 0 * w) → room ≡ on (get_or members k false) here
-    → RoomsTo active lens members w (k * most_intervals + (j + 1)) (set rooms (k * most_intervals + j) room)
-rooms_next active members lens rooms w k j h inside laid e q i l =
-    stored 0 _ rooms (k * most_intervals + j) _ inside laid (q ∙ ap (on (get_or members k false)) e ∙ room_place active members lens w k j h) i (omega arith)
 
 -- marks of both arrays, also past their ends
 pub marks_both : (n : ℕ) (dead set part : List Bool) → length set ≡ n → length part ≡ n

@@ -15,7 +15,9 @@ use Rattle.model.proofs.Sums.{sum_congr}
 use Rattle.order.specs.declared.Order.{Order}
 use Rattle.interval.specs.declared.Instants.{Instants}
 use Rattle.interval.specs.Held.{span_in}
-use Rattle.measure.specs.Arrays.{set_of, grams_of, intervals_of, setting_by, Below, OrderArrays}
+use Rattle.measure.specs.declared.arrays.Setting as measure
+use Rattle.measure.specs.Arrays.{set_of, row_of, grams_of, intervals_of, setting_by, Below, OrderArrays}
+use Rattle.measure.specs.Held.{as_setting}
 use Rattle.measure.specs.Measure.{Opens, Measured}
 
 -- ---- W and P fit
@@ -68,3 +70,10 @@ measured_same S S' a {row} {A} m = record {
   fans = λ j l. let l' : j < S.intervals = omega (arith, a.intervals) in m.fans j l' ∙ fans_same S S' a row row (λ j l. refl) A A (λ k l. refl) j l';
   no_fans = λ j g q. m.no_fans j (omega (arith, a.intervals)) q;
 }
+
+-- W, P and open fans are worked out by the windows, and so they are those of the table
+pub worked_out : (h : measure.Setting) (free : List ℕ) (set : List Bool) (reserved : List ℕ) (w p : ℕ) → Opens h.order h.instants set free reserved
+    → w ≡ weight h.order.count (grams_of h.order) (set_of set) → p ≡ sum (intervals_of h.instants) (λ j. span_in h.instants j * get_or reserved j 0)
+    → Measured (as_setting h) (row_of free) (set_of set) w p reserved
+worked_out h free set reserved w p opened weighs lasts =
+    measured_same _ _ h.arrays.same (measured h.order h.instants (set_of set) set (λ k l. refl) (row_of free) free (λ j l. refl) reserved w p opened weighs lasts)

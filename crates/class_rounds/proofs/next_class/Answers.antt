@@ -1,52 +1,37 @@
 -- `next_class` meets its contract: of the remaining doses' own marks, the set stays a candidate from round to round, and its weight falls.
 use mathlib.Core.Path.{refl}
-use borrow.Author.Rules.{rules}
 use Rattle.model.proofs.Same.{agree_refl, next_same}
-use Rattle.measure.specs.Arrays.{set_of, setting_from}
-use Rattle.class_rounds.proofs.Laws.{none_past, own_alike, own_some, own_none_past}
+use Rattle.measure.specs.Arrays.{set_of, row_of}
+use Rattle.measure.specs.Held.{as_setting}
+use Rattle.class_rounds.proofs.Laws.{own_alike, own_some, own_none_past}
 use Rattle.class_rounds.proofs.OneRound.{first_candidate}
 use Rattle.class_rounds.proofs.next_class.Goals as goal
 
-pub loop-free-init : goal.loop-free-init
-loop-free-init c =
+pub loop-class-init : goal.loop-class-init
+loop-class-init c =
     let A = c.args in
-    let few = c.requires.1.few_doses in
+    let h = A.setting.now in
     let own = c.doses_of-set in (
-      c.requires.0,
-      first_candidate _ _ A.active.now A.lens.now A.grams.now A.free _ (own_some A.doses few A.remaining own.result own.ensures c.requires.2),
-      own_none_past A.doses few A.remaining own.result own.ensures,
+      first_candidate (as_setting h) (row_of A.free.now) _ (own_some h.order.count h.arrays.few_doses A.remaining.now own.result own.ensures c.requires),
+      own_none_past h.order.count h.arrays.few_doses A.remaining.now own.result own.ensures,
     )
 
-pub try_candidate-round-requires : goal.try_candidate-round-requires
-try_candidate-round-requires c = (c.loop-free.invariant.0, c.requires.1)
-
--- the needs are met: the candidate is the class
-pub returns-then-round : goal.returns-then-round
-returns-then-round c =
+-- the needs are met: the candidate is the class, of the remaining doses' own marks and so of the remaining doses
+pub returns-in-Found : goal.returns-in-Found
+returns-in-Found c =
     let A = c.args in
+    let h = A.setting.now in
     let own = c.doses_of-set in
-    let round = c.try_candidate-round.ensures in
-    let met = c.if-round.true in
-    let S = setting_from A.doses A.intervals A.active.now A.lens.now A.grams.now in
+    let found = c.in-Found.ensures _ c.loop-class.invariant.0 c.loop-class.invariant.1 in
+    let S = as_setting h in
     record {
-      measured = round.0;
-      small = round.1;
+      measured = found.measured;
+      small = found.small;
       chosen = record {
-        next = next_same S S (agree_refl S) _ _ (λ j l. refl) (set_of own.result) (set_of A.remaining) _ _
-            (own_alike A.doses c.requires.1.few_doses A.remaining own.result own.ensures) (λ k l. refl) (round.2.class met _ c.loop-free.invariant.1);
-        valid = round.2.valid met;
-        past = c.loop-free.invariant.2;
-        none = round.2.none;
+        next = next_same S S (agree_refl S) _ _ (λ j l. refl) (set_of own.result) (set_of A.remaining.now) _ _
+            (own_alike h.order.count h.arrays.few_doses A.remaining.now own.result own.ensures) (λ k l. refl) found.chosen.next;
+        valid = found.chosen.valid;
+        past = found.chosen.past;
+        none = found.chosen.none;
       };
     }
-
--- a dose is short: the part that is left is a candidate, and lighter
-pub loop-free-smaller : goal.loop-free-smaller
-loop-free-smaller c =
-    c.try_candidate-round.ensures.2.lighter c.if-round.false _ c.loop-free.invariant.1
-
-pub loop-free-preserved : goal.loop-free-preserved
-loop-free-preserved c =
-    let kept = c.loop-free.invariant in
-    let round = c.try_candidate-round.ensures.2 in
-    (search rules, round.onward c.if-round.false _ kept.1, none_past _ _ _ round.fewer kept.2)
