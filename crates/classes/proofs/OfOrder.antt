@@ -1,28 +1,30 @@
 -- What is found in the arrays of an order is found of the order. Assumes nothing.
-use mathlib.Core.Bool.{Bool}
 use mathlib.Core.List.{List}
 use mathlib.Core.Path.{◌≡◌, refl, ◌∙◌}
-use Prim.Native.Nat.{ℕ, ◌<◌, ◌≤◌}
+use Prim.Native.Nat.{ℕ, ◌<◌}
 use native.Mathlib.Omega.{arith}
-use Rattle.model.specs.Limits.{most_doses, most_intervals}
 use Rattle.model.specs.Sets.{Doses}
 use Rattle.model.specs.Orders as model
 use Rattle.model.specs.Classes.{Setting, Row, free}
 use Rattle.model.specs.Intervals.{setting_of, fans_present}
 use Rattle.model.proofs.Same.{Agree, W-same, fans_same, class_time_same, valid_same, free_same, classes_same}
 use Rattle.model.proofs.Orders.{Fit}
-use Rattle.model.proofs.Intervals.{few_intervals}
-use Rattle.measure.specs.Arrays.{setting_from}
+use Rattle.measure.specs.declared.arrays.Setting as measure
+use Rattle.measure.specs.Arrays.{intervals_of}
+use Rattle.measure.specs.Held.{as_setting}
 use Rattle.classes.specs.declared.Tally.{Tally}
 use Rattle.classes.specs.Phase.{classes_in, shares_in, SoFar}
 use Rattle.classes.specs.Answer.{ClassesOf, SharesOf}
 use Rattle.classes.proofs.OnePhase.{so_far_end, none_remains}
 
-module _ (o : model.Order) (fit : Fit o) (n J : ℕ) (active : List Bool) (lens grams : List ℕ) (a : Agree (setting_from n J active lens grams) (setting_of o))
+module _ (o : model.Order) (fit : Fit o) (laid : measure.Setting) (a : Agree (as_setting laid) (setting_of o))
     (fans : ℕ) (ef : fans ≡ o.fans) (t : Tally) (table : List (List ℕ)) (shares : List ℕ)
-    (so : SoFar (setting_from n J active lens grams) (λ j. fans) t table shares) (e : t.classed ≡ n) where
+    (so : SoFar (as_setting laid) (λ j. fans) t table shares) (e : t.classed ≡ laid.order.count) where
   abbrev S : Setting
-  S = setting_from n J active lens grams
+  S = as_setting laid
+
+  abbrev J : ℕ
+  J = intervals_of laid.instants
 
   abbrev F : Row
   F j = fans
@@ -30,23 +32,17 @@ module _ (o : model.Order) (fit : Fit o) (n J : ℕ) (active : List Bool) (lens 
   abbrev C : ℕ → Doses
   C = classes_in t
 
-  few_doses : n ≤ most_doses
-  few_doses = omega (arith, a.doses, fit.few)
-
-  few_spans : J ≤ most_intervals
-  few_spans = omega (arith, a.intervals, few_intervals o fit)
-
   -- the fans that the first classes leave
   frees : (i j : ℕ) → j < J → free S F C i j ≡ free (setting_of o) (fans_present o) C i j
   frees = free_same S (setting_of o) a F (fans_present o) (λ j q. ef) C
 
   classes_found : ClassesOf o t
   classes_found = record {
-    classes = classes_same S (setting_of o) a F (fans_present o) (λ j q. ef) C t.class (so_far_end n J active lens grams F few_doses few_spans t table shares so e);
+    classes = classes_same S (setting_of o) a F (fans_present o) (λ j q. ef) C t.class (so_far_end laid F t table shares so e);
     weight = λ i q. so.weight i q ∙ W-same S (setting_of o) a (C i) (C i) (λ k l. refl);
     time = λ i q. so.time i q ∙ class_time_same S (setting_of o) a F (fans_present o) (λ j m. ef) C i;
     classed = e ∙ a.doses;
-    no_rest = λ k l. none_remains n J active lens grams F few_doses few_spans t table shares so e k (omega (arith, a.doses));
+    no_rest = λ k l. none_remains laid F t table shares so e k (omega (arith, a.doses));
   }
 
   shares_found : SharesOf o t table shares

@@ -7,6 +7,7 @@ use Prim.Native.Nat.{ℕ, ◌+◌, ◌^◌, ◌<◌}
 use native.Mathlib.Omega.{arith}
 use lib.Dec.{eqb→eq}
 use lib.ListN.{length, get_or}
+use Rattle.std.specs.Prelude.{Option, Some, None}
 use Rattle.model.specs.Limits.{most_doses, most_intervals}
 use Rattle.model.specs.Sets.{Doses}
 use Rattle.model.specs.Classes.{Setting, Row, P, free}
@@ -138,25 +139,18 @@ module _ (o : Order) where
       let e = next_unique S F (λ k. true) A B f g in
       rw (weight_alike S.doses (λ k. 2 ^ k) A B e, weight_alike S.doses S.grams A B e, P-alike S F A B e)
 
-  made : Bool → ℕ → ℕ → ℕ → TooFast
-  made above set weight time = record { above = above; set = set; weight = weight; time = time }
+  same_made : {s s' g g' p p' : ℕ} → s ≡ s' → g ≡ g' → p ≡ p'
+      → ◌≡◌ {A = TooFast} (record { set = s; weight = g; time = p }) (record { set = s'; weight = g'; time = p' })
+  same_made f h q = rw (f, h, q)
 
-  same_made : {a a' : Bool} {s s' g g' p p' : ℕ} → a ≡ a' → s ≡ s' → g ≡ g' → p ≡ p' → made a s g p ≡ made a' s' g' p'
-  same_made e f h q = rw (e, f, h, q)
+  same_parts : (f f' : TooFast) → nine f ≡ nine f' → f ≡ f'
+  same_parts f f' e = same_made (ap (λ (a : Answer). a.set) e) (ap (λ (a : Answer). a.weight) e) (ap (λ (a : Answer). a.time) e)
 
-  same_parts : (r r' : TooFast) → r.above ≡ r'.above → nine r ≡ nine r' → r ≡ r'
-  unfolding made
-  same_parts r r' e f =
-      same_made {a = r.above} {a' = r'.above} e (ap (λ (a : Answer). a.set) f) (ap (λ (a : Answer). a.weight) f) (ap (λ (a : Answer). a.time) f)
-
-  pub one_nine : (r r' : TooFast) → AgainstTop o r → AgainstTop o r' → r ≡ r'
-  one_nine r r' a a' = go r.above r'.above refl refl
-    where
-      go : (b b' : Bool) → r.above ≡ b → r'.above ≡ b' → r ≡ r'
-      go false false e e' = a.none e ∙ sym (a'.none e')
-      go true false e e' = let f = a.above e in absurd (a'.slow e' f.0 f.1 f.2)
-      go false true e e' = let f = a'.above e' in absurd (a.slow e f.0 f.1 f.2)
-      go true true e e' =
-          let f = a.above e in
-          let g = a'.above e' in
-          same_parts r r' (e ∙ sym e') (f.3 ∙ same_nine f.0 g.0 f.1 g.1 ∙ sym g.3)
+  pub one_nine : (r r' : Option TooFast) → AgainstTop o r → AgainstTop o r' → r ≡ r'
+  one_nine None None a a' = refl
+  one_nine (Some f) None a a' = let g = a.above f refl in absurd (a'.slow refl g.0 g.1 g.2)
+  one_nine None (Some f') a a' = let g = a'.above f' refl in absurd (a.slow refl g.0 g.1 g.2)
+  one_nine (Some f) (Some f') a a' =
+      let g = a.above f refl in
+      let g' = a'.above f' refl in
+      ap (λ (f : TooFast). Some f) (same_parts f f' (g.3 ∙ same_nine g.0 g'.0 g.1 g'.1 ∙ sym g'.3))

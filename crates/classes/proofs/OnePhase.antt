@@ -19,7 +19,9 @@ use Rattle.model.proofs.Sets.{Alike, ◌∩◌, and_left, and_right, and_both, s
 use Rattle.model.proofs.Same.{agree_refl, fans_same, time_same, valid_same, next_same}
 use Rattle.model.proofs.Sequence.{Found, found_none, found_more, found_all, remaining_alike, free_alike}
 use Rattle.class_chains.specs.Chains.{cell}
-use Rattle.measure.specs.Arrays.{set_of, active_of, row_of, setting_from}
+use Rattle.measure.specs.declared.arrays.Setting as measure
+use Rattle.measure.specs.Arrays.{set_of, active_of, row_of, intervals_of}
+use Rattle.measure.specs.Held.{as_setting}
 use Rattle.steps.proofs.Arrays.{all_same}
 use Rattle.measure.specs.Measure.{Measured}
 use Rattle.measure.proofs.Free.{frees_sum}
@@ -53,9 +55,15 @@ all_remain : (C : ℕ → Doses) (k : ℕ) → remaining C 0 k ≡ true
 unfolding remaining
 all_remain C k = refl
 
-module _ (n J : ℕ) (active : List Bool) (lens grams : List ℕ) (F : Row) (few : n ≤ most_doses) (few' : J ≤ most_intervals) where
+module _ (laid : measure.Setting) (F : Row) where
   abbrev S : Setting
-  S = setting_from n J active lens grams
+  S = as_setting laid
+
+  abbrev n : ℕ
+  n = laid.order.count
+
+  abbrev J : ℕ
+  J = intervals_of laid.instants
 
   -- the laws of `Same`, for one setting and other fans
   module _ (row row' : Row) (er : (j : ℕ) → j < J → row j ≡ row' j) where
@@ -94,8 +102,7 @@ module _ (n J : ℕ) (active : List Bool) (lens grams : List ℕ) (F : Row) (few
 
       module _ (members : List Bool) (x reserved-fans : List ℕ) (w p : ℕ) (measured : Measured S (row_of free-row) (set_of members) w p reserved-fans)
           (chosen : Chosen S (row_of free-row) (set_of t.remaining) (set_of members) x) (t' : Tally) (table' : List (List ℕ)) (shares' : List ℕ)
-          (after : After n members w p t t') (row : Reserved i reserved-fans table table') (kept : KeptShares members x shares shares')
-          (quiet : (k j : ℕ) → k < most_doses → J ≤ j → j < most_intervals → active_of active k j ≡ false) where
+          (after : After n members w p t t') (row : Reserved i reserved-fans table table') (kept : KeptShares members x shares shares') where
         abbrev C' : ℕ → Doses
         C' = classes_in t'
 
@@ -224,7 +231,7 @@ module _ (n J : ℕ) (active : List Bool) (lens grams : List ℕ) (F : Row) (few
           where
             none : (T (A k) → ⊥) → cell x k j ≡ 0
             none u =
-                let e : on (A k && active_of active k j) (get_or lens j 0 * W S A) ≡ 0 = on_no (A k && active_of active k j) _ (λ v. u (and_left (A k) (active_of active k j) v)) in
+                let e : on (A k && active_of laid.active k j) (get_or laid.lens j 0 * W S A) ≡ 0 = on_no (A k && active_of laid.active k j) _ (λ v. u (and_left (A k) (active_of laid.active k j) v)) in
                 omega (arith, chosen.valid.roomy k j q m)
 
         -- what is worked out for the members is so for the next class, and what was for an earlier class still is
@@ -258,7 +265,7 @@ module _ (n J : ℕ) (active : List Bool) (lens grams : List ℕ) (F : Row) (few
           no_column = λ l j q g h. each_class (λ l. row_at table' l j ≡ 0) (row.own j h ∙ measured.no_fans j g h)
               (λ l m. row.others l j (λ e. omega arith) ∙ so.past.no_column l j m g h) l q;
           no_dose = λ k j g l q. cell_at k j l q ∙ ap (λ (b : Bool). choose b (cell x k j) (cell shares k j)) (chosen.past k g l) ∙ so.past.no_dose k j g l q;
-          no_interval = λ k j l g q. cell_at k j l q ∙ none_of (A k) (chosen.none k j l q (quiet k j l g q)) (so.past.no_interval k j l g q);
+          no_interval = λ k j l g q. cell_at k j l q ∙ none_of (A k) (chosen.none k j l q (laid.arrays.no_interval k j l g q)) (so.past.no_interval k j l g q);
         }
 
         pub so_far_next : SoFar S F t' table' shares'

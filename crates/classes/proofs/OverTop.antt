@@ -1,16 +1,17 @@
 -- The first class against the top rate. Assumes nothing.
-use mathlib.Core.Bool.{true}
-use mathlib.Core.Path.{◌≡◌, refl, ap, ◌∙◌}
+use mathlib.Core.Path.{◌≡◌, ap, ◌∙◌, subst}
 use Prim.Native.Nat.{ℕ, ◌*◌, ◌<◌, ◌≤◌}
 use native.Mathlib.Omega.{arith}
 use lib.Dec.{T, ltb→lt, lt→ltb}
 use lib.ListN.{get_or}
+use Rattle.std.specs.Prelude.{true, Some, None}
+use Rattle.std.proofs.lemmas.Option.{none-some, same_Some}
 use Rattle.model.specs.Limits.{most_weight}
 use Rattle.model.specs.Sets.{Doses}
 use Rattle.model.specs.Classes.{Setting, W, P, set_number}
 use Rattle.model.specs.Orders.{Order}
 use Rattle.model.specs.Intervals.{setting_of, fans_present}
-use Rattle.model.specs.Answers.{FirstClass, above_top}
+use Rattle.model.specs.Answers.{FirstClass, above_top, too_fast}
 use Rattle.model.proofs.Sets.{weight_alike}
 use Rattle.model.proofs.FanTime.{P-alike}
 use Rattle.model.proofs.NextClass.{next_unique}
@@ -18,11 +19,10 @@ use Rattle.model.proofs.Orders.{Fit}
 use Rattle.model.proofs.Answers.{first_next, no_doses}
 use Rattle.model.proofs.Answers as model
 use Rattle.model.proofs.Planner.{W-most, time_most}
-use Rattle.steps.proofs.Tests.{not_both}
 use Rattle.classes.specs.declared.Tally.{Tally}
 use Rattle.classes.specs.declared.TooFast.{TooFast}
 use Rattle.classes.specs.Phase.{classes_in}
-use Rattle.classes.specs.Answer.{ClassesOf, not_above, AgainstTop}
+use Rattle.classes.specs.Answer.{ClassesOf, nine, AgainstTop}
 
 module _ {o : Order} (fit : Fit o) where
   abbrev S : Setting
@@ -72,16 +72,12 @@ module _ {o : Order} (fit : Fit o) where
           (omega (arith, ap (λ (y : ℕ). y * o.top_seconds) first_weight, ap (λ (y : ℕ). y * o.top_grams) first_time))
 
       pub too_fast_above : (set : ℕ) → set ≡ set_number S.doses (C 0) → get_or t.time 0 0 * o.top_grams < get_or t.weight 0 0 * o.top_seconds
-          → AgainstTop o (record { above = true; set = set; weight = get_or t.weight 0 0; time = get_or t.time 0 0 })
+          → AgainstTop o (Some (record { set = set; weight = get_or t.weight 0 0; time = get_or t.time 0 0 }))
       too_fast_above set e h = record {
-        slow = λ z. absurd (not_both refl z);
-        none = λ z. absurd (not_both refl z);
-        above = λ z. (C 0, first, above_if h, rw (e, first_weight, first_time));
+        slow = λ z. absurd (cc);
+        above = λ f z. subst (λ (f : TooFast). (A : Doses) × FirstClass o A × T (above_top o A) × (nine f ≡ too_fast o A)) (same_Some _ f z)
+            (C 0, first, above_if h, rw (e, first_weight, first_time));
       }
 
-    pub too_fast_not : (r : TooFast) → r ≡ not_above → ((A : Doses) → FirstClass o A → T (above_top o A) → ⊥) → AgainstTop o r
-    too_fast_not r e slow = record {
-      slow = λ z. slow;
-      none = λ z. e;
-      above = λ z. absurd (not_both z (ap (λ (r : TooFast). r.above) e));
-    }
+    pub too_fast_not : ((A : Doses) → FirstClass o A → T (above_top o A) → ⊥) → AgainstTop o None
+    too_fast_not slow = record { slow = λ z. slow; above = λ f z. absurd (none-some f z) }

@@ -1,5 +1,5 @@
 -- What `classes` answers of an order.
-use Rattle.std.specs.Prelude.{◌≡◌, true, false, List, ℕ, ◌<◌, T, get_or}
+use Rattle.std.specs.Prelude.{◌≡◌, false, List, ℕ, ◌<◌, T, get_or, Option, Some, None}
 use Rattle.model.specs.Sets.{Doses}
 use Rattle.model.specs.Orders.{Order}
 use Rattle.model.specs.Classes.{W, class_p, reserved, Classes}
@@ -23,16 +23,11 @@ pub record SharesOf (o : Order) (t : Tally) (table : List (List ℕ)) (shares : 
   pub valid : ValidShares o t.class (classes_in t) (shares_in t shares)
   pub past : Past (setting_of o).doses (setting_of o).intervals t table shares
 
--- the first class is not above the top rate, or there is none: "Fields not meant are 0"
-abbrev pub not_above : TooFast
-not_above = record { above = false; set = 0; weight = 0; time = 0 }
-
 -- refusal 9, as document 01 has it
 abbrev pub nine : TooFast → Answer
 nine r = record { number = 9; place = 0; set = r.set; weight = r.weight; time = r.time }
 
 -- r says whether the order's first class is above the top rate
-pub record AgainstTop (o : Order) (r : TooFast) : Type 0 where
-  pub slow : r.above ≡ false → (A : Doses) → FirstClass o A → T (above_top o A) → ⊥
-  pub none : r.above ≡ false → r ≡ not_above
-  pub above : r.above ≡ true → (A : Doses) × FirstClass o A × T (above_top o A) × (nine r ≡ too_fast o A)
+pub record AgainstTop (o : Order) (r : Option TooFast) : Type 0 where
+  pub slow : r ≡ None → (A : Doses) → FirstClass o A → T (above_top o A) → ⊥
+  pub above : (f : TooFast) → r ≡ Some f → (A : Doses) × FirstClass o A × T (above_top o A) × (nine f ≡ too_fast o A)

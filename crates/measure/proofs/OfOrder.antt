@@ -22,6 +22,8 @@ use Rattle.order.proofs.Fields.{doses_is, dose_is, few_doses}
 use Rattle.interval.specs.declared.Instants.{Instants}
 use Rattle.interval.specs.Held.{InstantsOf, active_in}
 use Rattle.interval.proofs.Laws.{count_is, span_is, active_is}
+use Rattle.measure.specs.declared.arrays.Setting as measure
+use Rattle.measure.specs.Held.{as_setting}
 use Rattle.measure.specs.Arrays.{ActiveIn, GramsIn, LensIn, active_of, intervals_of, setting_from, OrderArrays}
 use Rattle.steps.proofs.Tests.{and_false}
 
@@ -75,3 +77,8 @@ module _ (o : Order) (fit : Fit (as_order o)) (s : Instants) (of : InstantsOf o 
     no_dose = λ k j h l q. active_at_lem k j l q ∙ rw (le-ltb k o.count h);
     no_interval = λ k j l h q. active_at_lem k j l q ∙ rw (le-ltb j (intervals_of s) h) (and_false (ltb k o.count));
   }
+
+-- and so does the struct that has them
+pub stands_for : (o : Order) (s : Instants) (h : measure.Setting) → h.order ≡ o → h.instants ≡ s → Fit (as_order o) → InstantsOf o s
+    → ActiveIn o s (intervals_of s) h.active → LensIn s h.lens → GramsIn o h.grams → Agree (as_setting h) (setting_of (as_order o))
+stands_for o s h e q fit of ha hl hg = rw (e, q) (agree o fit s of h.active h.lens h.grams ha hl hg)

@@ -1,14 +1,8 @@
--- `left_of` meets its contract: every dose passed remains where it is no member.
-use mathlib.Core.Path.{refl}
-use native.Mathlib.Omega.{arith}
-use Rattle.steps.proofs.Loops.{done_none, done_next, done_all}
+-- `left_of` meets its contract: every dose remains where it is no member.
+use mathlib.Core.Bool.{false}
+use borrow.Author.Rules.{rules}
+use Rattle.measure.proofs.Made.{two_same, made}
 use Rattle.classes.proofs.left_of.Goals as goal
 
-pub loop-k-init : goal.loop-k-init
-loop-k-init c = done_none refl
-
-pub loop-k-preserved : goal.loop-k-preserved
-loop-k-preserved c = done_next c.loop-k.invariant (omega arith) c.without.ensures
-
 pub returns : goal.returns
-returns c = done_all c.loop-k.invariant (omega arith)
+returns c = λ k l. let z = (made _ (λ f i y f' h. two_same h.met.1.0 h.met.1.1) _ _ _ c.from_fn.ensures.items k false l).met in search rules

@@ -1,14 +1,7 @@
--- `number_members` meets its contract: every dose passed has its number.
-use mathlib.Core.Path.{refl}
-use native.Mathlib.Omega.{arith}
-use Rattle.steps.proofs.Loops.{done_none, done_next, done_all}
+-- `number_members` meets its contract: every dose has its number.
+use borrow.Author.Rules.{rules}
+use Rattle.measure.proofs.Made.{three_same, made}
 use Rattle.classes.proofs.number_members.Goals as goal
 
-pub loop-k-init : goal.loop-k-init
-loop-k-init c = done_none refl
-
-pub loop-k-preserved : goal.loop-k-preserved
-loop-k-preserved c = done_next c.loop-k.invariant (omega arith) c.choose_number.ensures
-
 pub returns : goal.returns
-returns c = done_all c.loop-k.invariant (omega arith)
+returns c = λ k l. let z = (made _ (λ f i y f' h. three_same h.met.1.0 h.met.1.1 h.met.1.2) _ _ _ c.from_fn.ensures.items k 0 l).met in search rules

@@ -12,18 +12,18 @@ use Rattle.classes.proofs.too_fast.Goals as goal
 pub returns-then-t-eq0 : goal.returns-then-t-eq0
 returns-then-t-eq0 c =
     let asked = c.requires in
-    too_fast_not asked.0 asked.1 _ c.not_above.ensures (λ B f u. no_first asked.0 asked.1 c.if-t-eq0.true B f)
+    too_fast_not asked.0 asked.1 (λ B f u. no_first asked.0 asked.1 c.if-t-eq0.true B f)
 
-pub overflow_cast-w : goal.overflow_cast-w
-overflow_cast-w c =
+pub overflow_cast-weight : goal.overflow_cast-weight
+overflow_cast-weight c =
     let asked = c.requires in
-    let some : 0 < c.args.t.class = omega arith in
+    let some : 0 < c.args.t.now.class = omega arith in
     omega (arith, weight_fit asked.0 asked.1 some)
 
-pub overflow_cast-p : goal.overflow_cast-p
-overflow_cast-p c =
+pub overflow_cast-time : goal.overflow_cast-time
+overflow_cast-time c =
     let asked = c.requires in
-    let some : 0 < c.args.t.class = omega arith in
+    let some : 0 < c.args.t.now.class = omega arith in
     omega (arith, time_fit asked.0 asked.1 some)
 
 -- the first class is not above the top rate
@@ -31,19 +31,17 @@ pub returns-then-excess-eq0 : goal.returns-then-excess-eq0
 unfolding as_order
 returns-then-excess-eq0 c =
     let asked = c.requires in
-    let some : 0 < c.args.t.class = omega arith in
-    too_fast_not asked.0 asked.1 _ c.not_above-then-excess-eq0.ensures
-    (slow_if asked.0 asked.1 some (omega (arith, c.if-excess-eq0.true, c.excess.ensures)))
+    let some : 0 < c.args.t.now.class = omega arith in
+    too_fast_not asked.0 asked.1 (slow_if asked.0 asked.1 some (omega (arith, c.if-excess-eq0.true, c.excess.ensures)))
 
 pub first_set-requires : goal.first_set-requires
-first_set-requires c =
-    few_doses c.args.o c.requires.0
+first_set-requires c = few_doses c.args.o.now c.requires.0
 
 -- it is above
 pub returns : goal.returns
 unfolding as_order
 returns c =
-    let number = c.first_set.ensures ∙ ap (λ (m : ℕ). set_number m (sets_of c.args.t.numbers 0)) (doses_is c.args.o) in
-    let some : 0 < c.args.t.class = omega arith in
+    let number = c.first_set.ensures ∙ ap (λ (m : ℕ). set_number m (sets_of c.args.t.now.numbers 0)) (doses_is c.args.o.now) in
+    let some : 0 < c.args.t.now.class = omega arith in
     too_fast_above c.requires.0 c.requires.1 some c.first_set.result number
     (omega (arith, c.if-excess-eq0.false, c.excess.ensures))
