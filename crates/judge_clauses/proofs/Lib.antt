@@ -1,2 +1,3 @@
 pub mod Tell
+pub mod Ranges
 pub mod OneAnswer

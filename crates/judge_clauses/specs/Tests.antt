@@ -1,6 +1,6 @@
--- What the judge tests of plan bytes, over the arrays in which it holds an order: document 01, "A plan stands", with the sets of doses named by
+-- What the judge tests of plan bytes, over the structs in which it holds an order and its instants: document 01, "A plan stands", with the sets of doses named by
 -- the plan's own slots. No share is raised: the plan is its own certificate.
-use Rattle.std.specs.Prelude.{◌≡◌, Bool, true, false, List, ℕ, zero, suc, ◌+◌, ◌-◌, ◌*◌, ◌/◌, ◌%◌, ◌<◌, ◌≤◌, eqb, ltb, length, get_or}
+use Rattle.std.specs.Prelude.{◌≡◌, Bool, true, false, List, ℕ, zero, suc, ◌+◌, ◌-◌, ◌*◌, ◌/◌, ◌%◌, ◌<◌, ◌≤◌, ◌&&◌, eqb, leb, ltb, length, get_or}
 use Rattle.model.specs.Limits.{most_doses}
 use Rattle.model.specs.Sets.{sum, weight}
 use Rattle.model.specs.Records.{pick, record_size, class_kind, slot_kind, blank_at, class_parts, slot_parts, record_at}
@@ -10,41 +10,58 @@ use Rattle.model.specs.Classes.{Setting, Row, W, class_p}
 use Rattle.model.specs.Plans.{Class, Slot}
 use Rattle.model.specs.Stands.{Between, EndsBy, NoOverlap, starts, ends, units_of}
 use Rattle.records.specs.Plan.{class_in, slot_in, kind_at}
-use Rattle.measure.specs.Arrays.{setting_by, sets_of}
+use Rattle.order.specs.declared.Order as code
+use Rattle.order.specs.Held.{dose_held}
+use Rattle.interval.specs.declared.Instants.{Instants}
+use Rattle.measure.specs.Arrays.{sets_of}
 
 -- r says whether P holds
 pub record Tells (r : Bool) (P : Type 0) : Type 0 where
   pub yes : r ≡ true → P
   pub no : r ≡ false → P → ⊥
 
--- ---- an order in arrays
+-- ---- an order as it is held
 
 pub record OrderHeld : Type 0 where
   pub doses : ℕ
   pub intervals : ℕ
   pub fans : ℕ
-  pub release : List ℕ
-  pub deadline : List ℕ
-  pub grams : List ℕ
+  pub release : ℕ → ℕ
+  pub deadline : ℕ → ℕ
+  pub grams : ℕ → ℕ
   pub instants : List ℕ
 
-abbrev pub order_held : ℕ → ℕ → ℕ → List ℕ → List ℕ → List ℕ → List ℕ → OrderHeld
-order_held doses intervals fans release deadline grams instants =
-    record { doses = doses; intervals = intervals; fans = fans; release = release; deadline = deadline; grams = grams; instants = instants }
+-- what the structs of an order and of its instants hold
+abbrev pub order_held : code.Order → Instants → OrderHeld
+order_held o s = record {
+  doses = o.count;
+  intervals = s.count - 1;
+  fans = o.fans;
+  release = λ k. (dose_held o k).release;
+  deadline = λ k. (dose_held o k).deadline;
+  grams = λ k. (dose_held o k).grams;
+  instants = s.at;
+}
 
--- the arrays hold the order
+-- they hold the order
 pub record HeldFrom (o : Order) (h : OrderHeld) : Type 0 where
   pub doses : h.doses ≡ length o.doses
   pub intervals : h.intervals ≡ interval_count o
   pub fans : h.fans ≡ o.fans
-  pub release : (k : ℕ) → k < h.doses → get_or h.release k 0 ≡ (dose_at o k).release
-  pub deadline : (k : ℕ) → k < h.doses → get_or h.deadline k 0 ≡ (dose_at o k).deadline
-  pub grams : (k : ℕ) → k < h.doses → get_or h.grams k 0 ≡ (dose_at o k).grams
+  pub release : (k : ℕ) → k < h.doses → h.release k ≡ (dose_at o k).release
+  pub deadline : (k : ℕ) → k < h.doses → h.deadline k ≡ (dose_at o k).deadline
+  pub grams : (k : ℕ) → k < h.doses → h.grams k ≡ (dose_at o k).grams
   pub instants : (j : ℕ) → j ≤ h.intervals → get_or h.instants j 0 ≡ instant_at o j
 
--- the setting that the arrays stand for
+-- the setting that they stand for
 abbrev pub setting_in : OrderHeld → Setting
-setting_in h = setting_by h.doses h.intervals h.release h.deadline h.grams h.instants
+setting_in h = record {
+  doses = h.doses;
+  intervals = h.intervals;
+  active = λ k j. leb (h.release k) (get_or h.instants j 0) && leb (get_or h.instants (j + 1) 0) (h.deadline k);
+  len = λ j. get_or h.instants (j + 1) 0 - get_or h.instants j 0;
+  grams = h.grams;
+}
 
 -- its fans, in every interval
 abbrev pub fans_held : OrderHeld → Row
@@ -94,6 +111,10 @@ pub record ClassFits (h : OrderHeld) (numbers : List ℕ) (i : ℕ) (c : Class) 
   pub weight : c.weight ≡ W (setting_in h) (sets_of numbers i)
   pub time : c.time ≡ class_p (setting_in h) (fans_held h) (sets_of numbers) i
 
+-- every dose's number is that of one of the plan's records
+abbrev pub Known : ℕ → List ℕ → List ℕ → Type 0
+Known doses plan numbers = (k : ℕ) → k < doses → (1 ≤ get_or numbers k 0) × (get_or numbers k 0 ≤ length plan / record_size)
+
 -- the same, from numbers that were worked out
 pub record Says (c : Class) (i size weight time : ℕ) : Type 0 where
   pub number : c.number ≡ i + 1
@@ -134,7 +155,7 @@ pub record SlotFits (h : OrderHeld) (plan : List ℕ) (numbers : List ℕ) (s : 
   pub dose : s.dose < h.doses
   pub names : SlotNames h.fans (get_or numbers s.dose 0) (class_in plan (get_or numbers s.dose 0 - 1)) s
   pub long : SlotLong s
-  pub window : Between (get_or h.release s.dose 0) (get_or h.deadline s.dose 0) s
+  pub window : Between (h.release s.dose) (h.deadline s.dose) s
   pub inside : InPlace h.instants h.intervals s
 
 -- "slots by interval, fan, start", and "no two slots of one fan overlap": s stands right before u
@@ -168,8 +189,8 @@ abbrev pub units_up_to : List ℕ → ℕ → ℕ → ℕ → ℕ
 units_up_to plan p i k = sum (i - p) (λ l. units_of k (slot_in plan (p + l)))
 
 -- "each dose's slots total w × P units"
-abbrev pub need_in : List ℕ → List ℕ → List ℕ → ℕ → ℕ
-need_in grams plan numbers k = get_or grams k 0 * (class_in plan (get_or numbers k 0 - 1)).time
+abbrev pub need_in : (ℕ → ℕ) → List ℕ → List ℕ → ℕ → ℕ
+need_in grams plan numbers k = grams k * (class_in plan (get_or numbers k 0 - 1)).time
 
 -- what the records and the slots' class numbers show without the order's windows
 pub record RowsPass (doses : ℕ) (plan : List ℕ) (p : ℕ) (numbers : List ℕ) : Type 0 where
@@ -189,7 +210,7 @@ pub record Passes (h : OrderHeld) (plan : List ℕ) (p : ℕ) (numbers : List �
   pub apart : (i : ℕ) → i < length plan / record_size → p ≤ i → ApartAfter h.instants h.intervals plan i (length plan / record_size)
   pub totals : (k : ℕ) → k < h.doses → units_up_to plan p (length plan / record_size) k ≡ need_in h.grams plan numbers k
 
--- what the judge finds of plan bytes: p classes, the class numbers of the doses, and whether the bytes pass
+-- what the judge finds of plan bytes: the classes in front and the class numbers of the doses, and whether the bytes pass
 pub record Finds (h : OrderHeld) (plan : List ℕ) (p : ℕ) (numbers : List ℕ) (r : Bool) : Type 0 where
   pub leads : Leads plan p
   pub named : ClassNumbers plan p (length plan / record_size) numbers

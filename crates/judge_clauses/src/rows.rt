@@ -10,12 +10,10 @@ pub fn lead(plan: &[u8]) -> usize
     ensures { Leads plan.now result }
 {
     let m = record_count(plan);
-    let mut i = 0;
-    while i < m {
+    for i in 0..m {
         if kind_at(plan, i) != CLASS_KIND {
             return i;
         }
-        i += 1;
     }
     m
 }
@@ -25,27 +23,12 @@ pub fn class_rows(plan: &[u8], p: usize) -> bool
     requires { p ≤ length plan.now / record_size }
     ensures { Tells result ((i : ℕ) → i < p → ClassRow (record_at plan.now i)) }
 {
-    let mut i = 0;
-    while i < p {
-        if !is_class(plan, i) {
-            return false;
-        }
-        i += 1;
-    }
-    true
+    (0..p).all(|i| is_class(plan, i))
 }
 
 // Behind the C records stand S records alone, and bytes not named are zero.
 pub fn slot_rows(plan: &[u8], p: usize) -> bool
     ensures { Tells result ((i : ℕ) → i < length plan.now / record_size → p ≤ i → SlotRow (record_at plan.now i)) }
 {
-    let m = record_count(plan);
-    let mut i = p;
-    while i < m {
-        if !is_slot(plan, i) {
-            return false;
-        }
-        i += 1;
-    }
-    true
+    (p..record_count(plan)).all(|i| is_slot(plan, i))
 }
