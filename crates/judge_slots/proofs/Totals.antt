@@ -9,11 +9,11 @@ use lib.ListN.{get_or, get_or-replicate, length, length-set, replicate, set}
 use lib.Seq.{get_or-set_other, get_or-set_same}
 use Rattle.model.specs.Limits.{most_doses}
 use Rattle.model.specs.Sets.{sum}
-use Rattle.model.specs.Plans.{Class, Slot}
+use Rattle.model.specs.Plans.{Slot}
 use Rattle.model.specs.Stands.{ends, starts, units_of}
 use Rattle.model.proofs.Sums.{sum_up}
 use Rattle.steps.proofs.Tests.{alike}
-use Rattle.records.specs.Plan.{class_in, slot_in}
+use Rattle.records.specs.Plan.{slot_in}
 use Rattle.judge_clauses.specs.Tests.{Counts, Tells, need_in, units_up_to}
 use Rattle.judge_clauses.proofs.Tell.{tells_by}
 
@@ -39,19 +39,14 @@ own_units k s e = rw (eq-eqb k s.dose e)
 no_units : (k : ℕ) (s : Slot) → (k ≡ s.dose → ⊥) → units_of k s ≡ 0
 no_units k s e = rw (ne_eqb k s.dose e)
 
--- a dose's need, from the class that was read
-pub need_of : (grams plan numbers : List ℕ) (k need number : ℕ) (c : Class) → number ≡ get_or numbers k 0 → c ≡ class_in plan (number - 1)
-    → need ≡ get_or grams k 0 * c.time → need ≡ need_in grams plan numbers k
-need_of grams plan numbers k need number c n e f = f ∙ rw (e, n)
-
 -- the sums of the slots up to record i, none above its need
-pub record Summed (grams plan numbers : List ℕ) (doses p i : ℕ) (sums : List ℕ) : Type 0 where
+pub record Summed (grams : ℕ → ℕ) (plan numbers : List ℕ) (doses p i : ℕ) (sums : List ℕ) : Type 0 where
   pub size : length sums ≡ most_doses
   pub from : p ≤ i
   pub total : (k : ℕ) → k < doses → get_or sums k 0 ≡ units_up_to plan p i k
   pub below : (k : ℕ) → k < doses → get_or sums k 0 ≤ need_in grams plan numbers k
 
-pub summed_none : (grams plan numbers : List ℕ) (doses p : ℕ) → doses ≤ most_doses → Summed grams plan numbers doses p p (replicate most_doses 0)
+pub summed_none : (grams : ℕ → ℕ) (plan numbers : List ℕ) (doses p : ℕ) → doses ≤ most_doses → Summed grams plan numbers doses p p (replicate most_doses 0)
 summed_none grams plan numbers doses p few = record {
   size = refl;
   from = omega arith;
@@ -63,25 +58,22 @@ summed_none grams plan numbers doses p few = record {
     none k l = get_or-replicate most_doses k 0 0 (omega arith)
 
 -- where all slots are counted, the sums tell what the slots come to
-pub tells_summed : {grams plan numbers : List ℕ} {doses p i : ℕ} {sums : List ℕ} {m : ℕ} {r : Bool} → Summed grams plan numbers doses p i sums → i ≡ m
+pub tells_summed : {grams : ℕ → ℕ} {plan numbers : List ℕ} {doses p i : ℕ} {sums : List ℕ} {m : ℕ} {r : Bool} → Summed grams plan numbers doses p i sums → i ≡ m
     → Tells r ((k : ℕ) → k < doses → get_or sums k 0 ≡ need_in grams plan numbers k)
     → Tells r ((k : ℕ) → k < doses → units_up_to plan p m k ≡ need_in grams plan numbers k)
 tells_summed h e t =
     tells_by t (λ met k l. sym (rw e at (h.total k l)) ∙ met k l) (λ all k l. (rw e at (h.total k l)) ∙ all k l)
 
 -- the slots up to record i are summed, slot s is record i, and its dose needs `need`
-pub record SlotRead (grams plan numbers : List ℕ) (doses p i : ℕ) (sums : List ℕ) (s : Slot) (need : ℕ) : Type 0 where
+pub record SlotRead (grams : ℕ → ℕ) (plan numbers : List ℕ) (doses p i : ℕ) (sums : List ℕ) (s : Slot) (need : ℕ) : Type 0 where
   pub so_far : Summed grams plan numbers doses p i sums
   pub slot : s ≡ slot_in plan i
   pub counts : Counts doses plan numbers s
-  pub needs : need ≡ get_or grams s.dose 0 * s.time
+  pub needs : need ≡ grams s.dose * s.time
 
-module _ {grams plan numbers : List ℕ} {doses p i : ℕ} {sums : List ℕ} {s : Slot} {need : ℕ} (r : SlotRead grams plan numbers doses p i sums s need) where
+module _ {grams : ℕ → ℕ} {plan numbers : List ℕ} {doses p i : ℕ} {sums : List ℕ} {s : Slot} {need : ℕ} (r : SlotRead grams plan numbers doses p i sums s need) where
   need_is : need ≡ need_in grams plan numbers s.dose
-  need_is = r.needs ∙ ap (λ (x : ℕ). get_or grams s.dose 0 * x) r.counts.time
-
-  pub had_fits : get_or sums s.dose 0 ≤ need
-  had_fits = omega (arith, need_is, r.so_far.below s.dose r.counts.dose)
+  need_is = r.needs ∙ ap (λ (x : ℕ). grams s.dose * x) r.counts.time
 
   grown : units_up_to plan p (i + 1) s.dose ≡ get_or sums s.dose 0 + (ends s - starts s)
   grown =

@@ -3,146 +3,94 @@
 
 mod units; // units.rt: what the slots of each dose total
 
-ghost use Rattle.std.specs.Prelude.{◌≡◌, ℕ, ◌/◌, ◌<◌, ◌≤◌, length, get_or};
-ghost use Rattle.model.specs.Limits.{most_doses, most_intervals};
+ghost use Rattle.std.specs.Prelude.{◌≡◌, ℕ, ◌-◌, ◌/◌, ◌<◌, ◌≤◌, length};
+ghost use Rattle.model.specs.Limits.{most_doses, most_instants};
 ghost use Rattle.model.specs.Records.{record_size};
 ghost use Rattle.model.specs.Stands.{Between};
 ghost use Rattle.records.specs.Held.{as_class, as_slot};
 ghost use Rattle.records.specs.Plan.{slot_in};
-ghost use Rattle.judge_clauses.specs.Tests.{Tells, SlotNames, SlotLong, SlotFits, InPlace, interval_of, order_held};
+ghost use Rattle.judge_clauses.specs.Tests.{Tells, Known, SlotNames, SlotLong, SlotFits, InPlace, interval_of, order_held};
 
-use records::{Class, RECORD_SIZE, Slot, class_at, ends, moment, slot_at, starts};
-use steps::index;
-use steps::limits::{MOST_DOSES, MOST_INSTANTS};
+use interval::{Instants, interval_count};
+use judge_clauses::Certificate;
+use order::Order;
+use records::{Class, Slot, class_at, ends, moment, record_count, slot_at, starts};
 pub use units::units_met;
 
 // "that class's W and P, an existing fan".
 fn slot_names(s: Slot, fans: u32, number: u32, c: Class) -> bool
     ensures { Tells result (SlotNames fans number (as_class c) (as_slot s)) }
 {
-    if number != s.class {
-        return false;
-    }
-    if s.weight != c.weight {
-        return false;
-    }
-    if s.time != c.time {
-        return false;
-    }
-    if s.fan < 1 {
-        return false;
-    }
-    s.fan <= fans
+    number == s.class && s.weight == c.weight && s.time == c.time && 1 <= s.fan && s.fan <= fans
 }
 
 // "has both parts below W and start before end".
 fn slot_long(s: Slot) -> bool
     ensures { Tells result (SlotLong (as_slot s)) }
 {
-    if s.weight <= s.start_part {
-        return false;
-    }
-    if s.weight <= s.end_part {
-        return false;
-    }
-    starts(s) < ends(s)
+    s.start_part < s.weight && s.end_part < s.weight && starts(s) < ends(s)
 }
 
 fn between(s: Slot, from: u32, to: u32) -> bool
     ensures { Tells result (Between from to (as_slot s)) }
 {
-    if starts(s) < moment(from, 0, s.weight) {
-        return false;
-    }
-    ends(s) <= moment(to, 0, s.weight)
+    moment(from, 0, s.weight) <= starts(s) && ends(s) <= moment(to, 0, s.weight)
 }
 
 // The interval in which a tick lies; the number of intervals where it lies in none.
-pub fn interval_of(instants: &[u32; MOST_INSTANTS], intervals: usize, tick: u32) -> usize
-    requires { intervals ≤ most_intervals }
-    ensures { (result ≡ interval_of instants.now intervals tick) × (result ≤ intervals) }
+pub fn interval_of(instants: &Instants, tick: u32) -> usize
+    requires { instants.now.count ≤ most_instants }
+    ensures { (result ≡ interval_of instants.now.at (instants.now.count - 1) tick) × (result ≤ instants.now.count - 1) }
 {
-    let mut j = 0;
-    while j < intervals {
-        if tick < instants[j + 1] {
+    let intervals = interval_count(*instants);
+    for j in 0..intervals {
+        if tick < instants.at[j + 1] {
             return j;
         }
-        j += 1;
     }
-    j
+    intervals
 }
 
 // "and lies within .. one interval".
-fn in_place(s: Slot, instants: &[u32; MOST_INSTANTS], intervals: usize) -> bool
-    requires { intervals ≤ most_intervals }
-    ensures { Tells result (InPlace instants.now intervals (as_slot s)) }
+fn in_place(s: Slot, instants: &Instants) -> bool
+    requires { instants.now.count ≤ most_instants }
+    ensures { Tells result (InPlace instants.now.at (instants.now.count - 1) (as_slot s)) }
 {
-    let j = interval_of(instants, intervals, s.start_tick);
-    if intervals <= j {
-        return false;
-    }
-    between(s, instants[j], instants[j + 1])
+    let j = interval_of(instants, s.start_tick);
+    j < interval_count(*instants) && between(s, instants.at[j], instants.at[j + 1])
 }
 
+// One slot by itself.
 fn slot_fits(
     s: Slot,
     plan: &[u8],
-    numbers: &[u32; MOST_DOSES],
-    release: &[u32; MOST_DOSES],
-    deadline: &[u32; MOST_DOSES],
-    grams: &[u32; MOST_DOSES],
-    instants: &[u32; MOST_INSTANTS],
-    doses: usize,
-    intervals: usize,
-    fans: u32,
+    certificate: &Certificate,
+    o: &Order,
+    instants: &Instants,
 ) -> bool
-    requires { (doses ≤ most_doses) × (intervals ≤ most_intervals) × ((k : ℕ) → k < doses → (1 ≤ get_or numbers.now k 0) × (get_or numbers.now k 0 ≤ length plan.now / record_size)) }
-    ensures { Tells result (SlotFits (order_held doses intervals fans release.now deadline.now grams.now instants.now) plan.now numbers.now (as_slot s)) }
+    requires { (o.now.count ≤ most_doses) × (instants.now.count ≤ most_instants) × Known o.now.count plan.now certificate.now.numbers }
+    ensures { Tells result (SlotFits (order_held o.now instants.now) plan.now certificate.now.numbers (as_slot s)) }
 {
     let k = s.dose as usize;
-    if doses <= k {
+    if o.count <= k {
         return false;
     }
-    let number = numbers[k];
-    let c = class_at(plan, index(number) - 1);
-    if !slot_names(s, fans, number, c) {
-        return false;
-    }
-    if !slot_long(s) {
-        return false;
-    }
-    if !between(s, release[k], deadline[k]) {
-        return false;
-    }
-    in_place(s, instants, intervals)
+    let number = certificate.numbers[k];
+    let c = class_at(plan, number as usize - 1);
+    let d = o.dose(k);
+    slot_names(s, o.fans, number, c)
+        && slot_long(s)
+        && between(s, d.release, d.deadline)
+        && in_place(s, instants)
 }
 
 // Each slot by itself.
-pub fn slots_fit(
-    plan: &[u8],
-    p: usize,
-    numbers: &[u32; MOST_DOSES],
-    release: &[u32; MOST_DOSES],
-    deadline: &[u32; MOST_DOSES],
-    grams: &[u32; MOST_DOSES],
-    instants: &[u32; MOST_INSTANTS],
-    doses: usize,
-    intervals: usize,
-    fans: u32,
-) -> bool
-    requires { (doses ≤ most_doses) × (intervals ≤ most_intervals) × ((k : ℕ) → k < doses → (1 ≤ get_or numbers.now k 0) × (get_or numbers.now k 0 ≤ length plan.now / record_size)) }
-    ensures { Tells result ((i : ℕ) → i < length plan.now / record_size → p ≤ i → SlotFits (order_held doses intervals fans release.now deadline.now grams.now instants.now) plan.now numbers.now (slot_in plan.now i)) }
+pub fn slots_fit(plan: &[u8], certificate: &Certificate, o: &Order, instants: &Instants) -> bool
+    requires { (o.now.count ≤ most_doses) × (instants.now.count ≤ most_instants) × Known o.now.count plan.now certificate.now.numbers }
+    ensures { Tells result ((i : ℕ) → i < length plan.now / record_size → certificate.now.classes ≤ i → SlotFits (order_held o.now instants.now) plan.now certificate.now.numbers (slot_in plan.now i)) }
 {
-    let m = plan.len() / RECORD_SIZE;
-    let mut i = p;
-    while i < m {
+    (certificate.classes..record_count(plan)).all(|i| {
         let s = slot_at(plan, i);
-        if !slot_fits(
-            s, plan, numbers, release, deadline, grams, instants, doses, intervals, fans,
-        ) {
-            return false;
-        }
-        i += 1;
-    }
-    true
+        slot_fits(s, plan, certificate, o, instants)
+    })
 }

@@ -1,24 +1,25 @@
--- `slots_fit` meets its contract: every slot passed fits.
-use mathlib.Core.Path.{refl}
-use borrow.Author.Count.{below_more}
-use Rattle.judge_clauses.proofs.Tell.{tells_not, tells_off, tells_on, tells_was}
-use native.Mathlib.Omega.{arith}
+-- `slots_fit` meets its contract: every slot of the range is told of by `slot_fits` (Ranges).
+use mathlib.Core.Bool.{false, true}
+use mathlib.Core.List.{List}
+use mathlib.Core.Path.{◌≡◌, refl}
+use Prim.Native.Nat.{ℕ}
+use Rattle.std.proofs.Common.{rules}
+use Rattle.model.specs.Plans.{Slot}
+use Rattle.records.specs.Plan.{slot_in}
+use Rattle.judge_clauses.specs.Tests.{OrderHeld, SlotFits, Tells, order_held}
+use Rattle.judge_clauses.proofs.Ranges.{tells_all}
+use Rattle.judge_clauses.proofs.Tell.{tells_not, tells_was}
 use Rattle.judge_slots.proofs.slots_fit.Goals as goal
 
-pub loop-i-init : goal.loop-i-init
-loop-i-init c = (refl, omega arith, λ k l g. absurd (omega arith))
+-- the slot that was read is the plan's
+was : (h : OrderHeld) (plan numbers : List ℕ) (s u : Slot) → s ≡ u → Tells true (SlotFits h plan numbers s) → SlotFits h plan numbers u
+was h plan numbers s u e t = rw e at (tells_was t refl)
 
-pub slot_fits-requires : goal.slot_fits-requires
-slot_fits-requires c = c.requires
-
-pub returns-then-not-slot_fits : goal.returns-then-not-slot_fits
-returns-then-not-slot_fits c =
-    tells_off (λ all. tells_not c.slot_fits.ensures c.if-not-slot_fits.true (rw c.slot_at-s.ensures (all c.loop-i.i (omega arith) (omega arith))))
-
-pub loop-i-preserved : goal.loop-i-preserved
-loop-i-preserved c =
-    let fits = tells_was c.slot_fits.ensures c.if-not-slot_fits.false in
-    (refl, omega arith, below_more _ _ c.loop-i.invariant.2 (λ g. rw c.slot_at-s.ensures at fits))
+was_not : (h : OrderHeld) (plan numbers : List ℕ) (s u : Slot) → s ≡ u → Tells false (SlotFits h plan numbers s) → SlotFits h plan numbers u → ⊥
+was_not h plan numbers s u e t f = tells_not t refl (rw e f)
 
 pub returns : goal.returns
-returns c = tells_on (λ k l g. c.loop-i.invariant.2 k (omega arith) g)
+returns c =
+    let A = c.args in
+    tells_all A.certificate.now.classes _ _ _ _ (λ i. SlotFits (order_held A.o.now A.instants.now) A.plan.now A.certificate.now.numbers (slot_in A.plan.now i))
+    c.all.ensures.ran (cc) (λ x q k. search (rules, was)) (λ x q k. search (rules, was_not))

@@ -1,66 +1,52 @@
 -- `units_met` meets its contract: the sums so far are those of the slots passed, none above its need (Totals).
-use mathlib.Core.Path.{◌≡◌, refl}
+use mathlib.Core.Path.{◌≡◌, ◌∙◌, ap}
 use Prim.Native.Nat.{ℕ, ◌*◌, ◌<◌, ◌≤◌}
 use mathlib.Core.List.{List}
 use lib.ListN.{get_or}
+use Rattle.std.proofs.Common.{rules, tests}
+use Rattle.model.specs.Orders as orders
 use Rattle.model.specs.Plans.{Slot}
+use Rattle.order.specs.declared.Order.{Order}
+use Rattle.order.specs.Held.{dose_held}
 use Rattle.records.specs.Plan.{slot_in}
-use Rattle.judge_clauses.specs.Tests.{Counts}
-use Rattle.judge_clauses.proofs.Tell.{tells_off}
-use Rattle.judge_slots.proofs.Totals.{SlotRead, Summed, had_fits, over_need, summed_more, summed_none, tells_summed}
+use Rattle.judge_clauses.specs.Tests.{Counts, need_in}
+use Rattle.judge_clauses.proofs.Ranges.{tells_all}
+use Rattle.judge_clauses.proofs.Tell.{tells_by, tells_off}
+use Rattle.judge_slots.proofs.Totals.{SlotRead, Summed, over_need, summed_more, summed_none, tells_summed}
 use native.Mathlib.Omega.{arith}
 use Rattle.judge_slots.proofs.units.units_met.Goals as goal
 
--- the slot that was read can be counted
-counts : {plan numbers : List ℕ} {doses p i m : ℕ} {s : Slot} → s ≡ slot_in plan i
-    → ((j : ℕ) → j < m → p ≤ j → Counts doses plan numbers (slot_in plan j)) → i < m → p ≤ i → Counts doses plan numbers s
-counts {i = i} e all l f = rw e (all i l f)
+abbrev grams_of : Order → ℕ → ℕ
+grams_of o k = (dose_held o k).grams
 
--- and its dose's need is known
-known : {grams plan numbers : List ℕ} {doses p i : ℕ} {sums : List ℕ} {s : Slot} {need m : ℕ} → Summed grams plan numbers doses p i sums
-    → s ≡ slot_in plan i → ((j : ℕ) → j < m → p ≤ j → Counts doses plan numbers (slot_in plan j)) → i < m
-    → need ≡ get_or grams s.dose 0 * s.time → SlotRead grams plan numbers doses p i sums s need
-known h e all l n = record { so_far = h; slot = e; counts = counts e all l h.from; needs = n }
+-- the slot that was read can be counted, and its dose's need is known
+read : (o : Order) {plan numbers : List ℕ} {p i m need : ℕ} {sums : List ℕ} {s : Slot} {d : orders.Dose} → Summed (grams_of o) plan numbers o.count p i sums
+    → s ≡ slot_in plan i → ((j : ℕ) → j < m → p ≤ j → Counts o.count plan numbers (slot_in plan j)) → i < m
+    → d ≡ dose_held o s.dose → need ≡ d.grams * s.time → SlotRead (grams_of o) plan numbers o.count p i sums s need
+read o {i = i} {s = s} h e all l held n =
+    record { so_far = h; slot = e; counts = rw e (all i l h.from); needs = n ∙ ap (λ (x : orders.Dose). x.grams * s.time) held }
 
 pub loop-i-init : goal.loop-i-init
-loop-i-init c =
-    let A = c.args in
-    (refl, c.requires.1, summed_none A.grams.now A.plan.now A.numbers.now A.doses A.p c.requires.0)
-
-pub bounds-sums-k : goal.bounds-sums-k
-bounds-sums-k c = omega (arith, (counts c.slot_at-s.ensures c.requires.3 (omega arith) c.loop-i.invariant.2.from).dose, c.requires.0)
-
-pub bounds-grams-k : goal.bounds-grams-k
-bounds-grams-k c = omega (arith, (counts c.slot_at-s.ensures c.requires.3 (omega arith) c.loop-i.invariant.2.from).dose, c.requires.0)
-
-pub overflow_sub-units : goal.overflow_sub-units
-overflow_sub-units c = omega (arith, (counts c.slot_at-s.ensures c.requires.3 (omega arith) c.loop-i.invariant.2.from).long, c.starts.ensures, c.ends.ensures)
-
-pub overflow_sub-need : goal.overflow_sub-need
-overflow_sub-need c = had_fits (known c.loop-i.invariant.2 c.slot_at-s.ensures c.requires.3 (omega arith) c.product-need.ensures)
+loop-i-init c = summed_none _ _ _ _ _ c.requires.0
 
 pub returns-then-need-had : goal.returns-then-need-had
 returns-then-need-had c =
+    let slot = read c.args.o.now c.loop-i.invariant c.slot_at-s.ensures c.requires.3 (omega arith) c.dose.ensures c.product-need.ensures in
     let starts = c.starts.ensures in
     let ends = c.ends.ensures in
-    tells_off (over_need (known c.loop-i.invariant.2 c.slot_at-s.ensures c.requires.3 (omega arith) c.product-need.ensures) (omega (arith, c.if-need-had.true)) _ (omega arith))
-
-pub overflow_add-sums : goal.overflow_add-sums
-overflow_add-sums c = omega (arith, had_fits (known c.loop-i.invariant.2 c.slot_at-s.ensures c.requires.3 (omega arith) c.product-need.ensures), c.if-need-had.false)
-
-pub bounds-sums-k-in-loop-i : goal.bounds-sums-k-in-loop-i
-bounds-sums-k-in-loop-i c = omega (arith, (counts c.slot_at-s.ensures c.requires.3 (omega arith) c.loop-i.invariant.2.from).dose)
+    tells_off (over_need slot (omega (arith, c.if-need-had.true)) _ (omega arith))
 
 pub loop-i-preserved : goal.loop-i-preserved
 loop-i-preserved c =
+    let slot = read c.args.o.now c.loop-i.invariant c.slot_at-s.ensures c.requires.3 (omega arith) c.dose.ensures c.product-need.ensures in
     let starts = c.starts.ensures in
     let ends = c.ends.ensures in
-    let had = had_fits (known c.loop-i.invariant.2 c.slot_at-s.ensures c.requires.3 (omega arith) c.product-need.ensures) in
-    (refl, omega arith, rw (starts, ends) (summed_more (known c.loop-i.invariant.2 c.slot_at-s.ensures c.requires.3 (omega arith) c.product-need.ensures) c.requires.0 (omega (arith, c.if-need-had.false))))
-
-pub sums_met-requires : goal.sums_met-requires
-sums_met-requires c =
-    (c.requires.0, c.requires.2)
+    rw (starts, ends) (summed_more slot c.requires.0 (omega (arith, c.if-need-had.false)))
 
 pub returns : goal.returns
-returns c = tells_summed c.loop-i.invariant.2 (omega arith) c.sums_met.ensures
+returns c =
+    let A = c.args in
+    tells_summed c.loop-i.invariant (omega arith)
+    (tells_by (tells_all 0 A.o.now.count _ _ _ (λ k. get_or c.loop-i.sums k 0 ≡ need_in (grams_of A.o.now) A.plan.now A.certificate.now.numbers k) c.all.ensures.ran (cc)
+    (λ x q k. search (rules, tests)) (λ x q k. search (rules, tests)))
+    (λ all k l. all k l (omega arith)) (λ all k l g. all k l))
