@@ -8,11 +8,10 @@ use native.Mathlib.Omega.{arith}
 use lib.ListN.{get_or, length}
 use Rattle.model.specs.Records.{record_size}
 use Rattle.model.specs.Plans.{Slot}
-use Rattle.model.specs.Stands.{EndsBy}
 use Rattle.model.proofs.Fractions.{compare≤}
 use Rattle.steps.proofs.Tests.{below_or}
 use Rattle.records.specs.Plan.{slot_in}
-use Rattle.judge_clauses.specs.Tests.{Apart, ApartAfter, InTurn, SlotsReady, SlotLong, by_fan, by_interval, by_time, place_in, scan}
+use Rattle.judge_clauses.specs.Tests.{Apart, ApartAfter, InTurn, SlotsReady, by_fan, by_interval, by_time, place_in, scan}
 use Rattle.judge_slots.proofs.Places.{scan_none, scan_on, scan_stop}
 
 module _ {instants : List ℕ} {intervals : ℕ} {s u : Slot} where
@@ -21,18 +20,6 @@ module _ {instants : List ℕ} {intervals : ℕ} {s u : Slot} where
   turn_place (by_interval a) = omega arith
   turn_place (by_fan e a) = omega arith
   turn_place (by_time e f a) = omega arith
-
-  -- nor do fans in one interval
-  pub turn_fan : InTurn instants intervals s u → place_in instants intervals s ≡ place_in instants intervals u → s.fan ≤ u.fan
-  turn_fan (by_interval a) q = absurd (omega arith)
-  turn_fan (by_fan e a) q = omega arith
-  turn_fan (by_time e f a) q = omega arith
-
-  -- nor time on one fan
-  pub turn_time : InTurn instants intervals s u → place_in instants intervals s ≡ place_in instants intervals u → s.fan ≡ u.fan → EndsBy s u
-  turn_time (by_interval a) q r = absurd (omega arith)
-  turn_time (by_fan e a) q r = absurd (omega arith)
-  turn_time (by_time e f a) q r = a
 
 -- ---- the interval of a tick
 
@@ -82,9 +69,6 @@ module _ {instants : List ℕ} {intervals : ℕ} {plan : List ℕ} {p i l : ℕ}
   at_own : j ≡ at i
   at_own = b.place ∙ ap (place_in instants intervals) b.slot
 
-  pub both_long : SlotLong s × SlotLong u
-  both_long = (rw b.slot (b.ready.long i (omega (arith, b.later, b.within)) b.from), rw b.next (b.ready.long l b.within (omega (arith, b.from, b.later))))
-
   sorted : at i ≤ at l
   sorted = b.ready.sorted i l b.from b.later b.within
 
@@ -107,9 +91,3 @@ module _ {instants : List ℕ} {intervals : ℕ} {plan : List ℕ} {p i l : ℕ}
       let ends : (slot_in plan l).start_tick < get_or instants (at i + 1) 0 = rw (b.next, at_own) at h in
       let up = scan_below instants (slot_in plan l).start_tick intervals 0 (at i) (omega arith) (omega arith) ends in
       rw (b.slot, b.next) (a.apart l b.within b.later (omega (arith, sorted)))
-
-  -- one slot more
-  pub apart_more : ApartAfter instants intervals plan i l → Apart s u → ApartAfter instants intervals plan i (l + 1)
-  apart_more a x =
-      let own : Apart (slot_in plan i) (slot_in plan l) = rw (b.slot, b.next) at x in
-      record { apart = λ k kl ik e. elim (eq-or-lt_of_le {n = k} {m = l} (omega arith)) [ inl q ↦ rw q own | inr q ↦ a.apart k q ik e ] }

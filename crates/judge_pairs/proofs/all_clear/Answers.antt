@@ -1,24 +1,24 @@
--- `all_clear` meets its contract: every slot passed is apart from all behind it.
+-- `all_clear` meets its contract: every slot is apart from all behind it (Ranges).
+use mathlib.Core.Bool.{false, true}
+use mathlib.Core.List.{List}
 use mathlib.Core.Path.{refl}
-use borrow.Author.Count.{below_more}
-use Rattle.judge_clauses.proofs.Tell.{tells_not, tells_off, tells_on, tells_was}
-use native.Mathlib.Omega.{arith}
+use Prim.Native.Nat.{ℕ, ◌-◌, ◌/◌}
+use lib.ListN.{length}
+use Rattle.std.proofs.Common.{rules}
+use Rattle.model.specs.Records.{record_size}
+use Rattle.judge_clauses.specs.Tests.{ApartAfter, Tells}
+use Rattle.judge_clauses.proofs.Ranges.{tells_all}
+use Rattle.judge_clauses.proofs.Tell.{tells_not, tells_was}
 use Rattle.judge_pairs.proofs.all_clear.Goals as goal
 
-pub loop-i-init : goal.loop-i-init
-loop-i-init c = (refl, omega arith, λ k l g. absurd (omega arith))
+was : (instants : List ℕ) (intervals : ℕ) (plan : List ℕ) (i e : ℕ) → Tells true (ApartAfter instants intervals plan i e) → ApartAfter instants intervals plan i e
+was instants intervals plan i e t = tells_was t refl
 
-pub clear_after-requires : goal.clear_after-requires
-clear_after-requires c =
-    (c.requires.0, c.loop-i.invariant.1, c.loop-i-test.true, c.requires.1)
-
-pub returns-then-not-clear_after : goal.returns-then-not-clear_after
-returns-then-not-clear_after c =
-    tells_off (λ all. tells_not c.clear_after.ensures c.if-not-clear_after.true (all c.loop-i.i (omega arith) (omega arith)))
-
-pub loop-i-preserved : goal.loop-i-preserved
-loop-i-preserved c =
-    (refl, omega arith, below_more _ _ c.loop-i.invariant.2 (λ g. tells_was c.clear_after.ensures c.if-not-clear_after.false))
+was_not : (instants : List ℕ) (intervals : ℕ) (plan : List ℕ) (i e : ℕ) → Tells false (ApartAfter instants intervals plan i e) → ApartAfter instants intervals plan i e → ⊥
+was_not instants intervals plan i e t = tells_not t refl
 
 pub returns : goal.returns
-returns c = tells_on (λ k l g. c.loop-i.invariant.2 k (omega arith) g)
+returns c =
+    let A = c.args in
+    tells_all A.p _ _ _ _ (λ i. ApartAfter A.instants.now.at (A.instants.now.count - 1) A.plan.now i (length A.plan.now / record_size))
+    c.all.ensures.ran (cc) (λ x q k. search (rules, was)) (λ x q k. search (rules, was_not))

@@ -1,36 +1,34 @@
--- `all_in_turn` meets its contract: every slot passed comes before the next.
-use mathlib.Core.Path.{refl}
-use Prim.Native.Nat.{◌+◌}
-use borrow.Author.Count.{below_more}
-use Rattle.judge_clauses.proofs.Tell.{tells_not, tells_off, tells_on, tells_was}
+-- `all_in_turn` meets its contract: every slot comes before the next (Ranges).
+use mathlib.Core.Bool.{Bool, false, true}
+use mathlib.Core.List.{List}
+use mathlib.Core.Path.{◌≡◌, refl}
+use Prim.Native.Nat.{ℕ, ◌+◌, ◌-◌, ◌<◌, ◌≤◌}
 use native.Mathlib.Omega.{arith}
+use Rattle.std.proofs.Common.{rules}
+use Rattle.model.specs.Plans.{Slot}
+use Rattle.records.specs.Plan.{slot_in}
+use Rattle.judge_clauses.specs.Tests.{InTurn, Tells}
+use Rattle.judge_clauses.proofs.Ranges.{tells_all}
+use Rattle.judge_clauses.proofs.Tell.{tells_by, tells_not, tells_was}
 use Rattle.judge_pairs.proofs.all_in_turn.Goals as goal
 
-pub loop-i-init : goal.loop-i-init
-loop-i-init c = record { records = refl; from = omega arith; within = omega arith; turns = λ k l g. absurd (omega arith) }
+-- the two slots that were read are the plan's
+was : (instants : List ℕ) (intervals : ℕ) (s u v w : Slot) → s ≡ v → u ≡ w → Tells true (InTurn instants intervals s u) → InTurn instants intervals v w
+was instants intervals s u v w e f t = rw (e, f) at (tells_was t refl)
 
-pub in_turn-requires : goal.in_turn-requires
-in_turn-requires c =
-    let long = c.requires.2 in (
-      c.requires.0,
-      rw c.slot_at-s.ensures (long c.loop-i.i (omega arith) (omega arith)),
-      rw c.slot_at-u.ensures (long (c.loop-i.i + 1) (omega arith) (omega arith)),
-    )
+was_not : (instants : List ℕ) (intervals : ℕ) (s u v w : Slot) → s ≡ v → u ≡ w → Tells false (InTurn instants intervals s u) → InTurn instants intervals v w → ⊥
+was_not instants intervals s u v w e f t h = tells_not t refl (rw (e, f) h)
 
-pub returns-then-not-in_turn : goal.returns-then-not-in_turn
-returns-then-not-in_turn c =
-    tells_off (λ all.
-    tells_not c.in_turn.ensures c.if-not-in_turn.true
-    (rw (c.slot_at-s.ensures, c.slot_at-u.ensures) (all c.loop-i.i (omega arith) (omega arith))))
-
-pub loop-i-preserved : goal.loop-i-preserved
-loop-i-preserved c =
-    record {
-      records = refl;
-      from = omega arith;
-      within = omega arith;
-      turns = below_more _ _ c.loop-i.invariant.turns (λ g. rw (c.slot_at-s.ensures, c.slot_at-u.ensures) at (tells_was c.in_turn.ensures c.if-not-in_turn.false));
-    }
+-- from slot i - 1 and slot i to slot i and slot i + 1
+next : (T : ℕ → ℕ → Type 0) (p m : ℕ) {r : Bool} → Tells r ((i : ℕ) → i < m → p + 1 ≤ i → T (i - 1) i) → Tells r ((i : ℕ) → i + 1 < m → p ≤ i → T i (i + 1))
+next T p m t =
+    tells_by t
+    (λ all i l g. let back : i + 1 - 1 ≡ i = omega arith in rw back at (all (i + 1) l (omega arith)))
+    (λ all i l g. let back : i - 1 + 1 ≡ i = omega arith in rw back at (all (i - 1) (omega arith) (omega arith)))
 
 pub returns : goal.returns
-returns c = tells_on (λ k l g. c.loop-i.invariant.turns k (omega arith) g)
+returns c =
+    let A = c.args in
+    next (λ i j. InTurn A.instants.now.at (A.instants.now.count - 1) (slot_in A.plan.now i) (slot_in A.plan.now j)) A.p _
+    (tells_all (A.p + 1) _ _ _ _ (λ i. InTurn A.instants.now.at (A.instants.now.count - 1) (slot_in A.plan.now (i - 1)) (slot_in A.plan.now i))
+    c.all.ensures.ran (cc) (λ x q k. search (rules, was)) (λ x q k. search (rules, was_not)))
