@@ -17,7 +17,7 @@ use Rattle.std.proofs.iter.Yields.{nat_range_steps}
 use Rattle.std.proofs.lemmas.Iterator.{YieldsList-from_range, cases_from_all}
 use Rattle.std.proofs.lemmas.List.FromFn.{get_or-range_with_len, length-range_with_len}
 use Rattle.judge_clauses.specs.Tests.{Tells}
-use Rattle.judge_clauses.proofs.Tell.{tells_off, tells_on}
+use Rattle.judge_clauses.proofs.Tell.{tells_by, tells_off, tells_on}
 
 module _ {P : ℕ → Type 0} where
   -- what holds of each place of the list of the numbers holds of each number
@@ -43,3 +43,10 @@ pub tells_all : {F : Type 0} {g : Mut F (ℕ × Unit {0}) Bool} {s : Range ℕ} 
     → Tells r ((i : ℕ) → i < m → p ≤ i → P i)
 tells_all p m u f r P ran e holds fails =
     tells_range p m r (cases_from_all u f r P (λ i. P i → ⊥) ran (YieldsList-from_range p m (m - p) e refl) holds fails)
+
+-- neighbours: from number i - 1 and number i to number i and number i + 1
+pub tells_next : (T : ℕ → ℕ → Type 0) (p m : ℕ) {r : Bool} → Tells r ((i : ℕ) → i < m → p + 1 ≤ i → T (i - 1) i) → Tells r ((i : ℕ) → i + 1 < m → p ≤ i → T i (i + 1))
+tells_next T p m t =
+    tells_by t
+    (λ all i l g. let back : i + 1 - 1 ≡ i = omega arith in rw back at (all (i + 1) l (omega arith)))
+    (λ all i l g. let back : i - 1 + 1 ≡ i = omega arith in rw back at (all (i - 1) (omega arith) (omega arith)))

@@ -1,15 +1,14 @@
 -- `all_in_turn` meets its contract: every slot comes before the next (Ranges).
-use mathlib.Core.Bool.{Bool, false, true}
+use mathlib.Core.Bool.{false, true}
 use mathlib.Core.List.{List}
 use mathlib.Core.Path.{◌≡◌, refl}
-use Prim.Native.Nat.{ℕ, ◌+◌, ◌-◌, ◌<◌, ◌≤◌}
-use native.Mathlib.Omega.{arith}
+use Prim.Native.Nat.{ℕ, ◌+◌, ◌-◌}
 use Rattle.std.proofs.Common.{rules}
 use Rattle.model.specs.Plans.{Slot}
 use Rattle.records.specs.Plan.{slot_in}
 use Rattle.judge_clauses.specs.Tests.{InTurn, Tells}
-use Rattle.judge_clauses.proofs.Ranges.{tells_all}
-use Rattle.judge_clauses.proofs.Tell.{tells_by, tells_not, tells_was}
+use Rattle.judge_clauses.proofs.Ranges.{tells_all, tells_next}
+use Rattle.judge_clauses.proofs.Tell.{tells_not, tells_was}
 use Rattle.judge_pairs.proofs.all_in_turn.Goals as goal
 
 -- the two slots that were read are the plan's
@@ -19,16 +18,9 @@ was instants intervals s u v w e f t = rw (e, f) at (tells_was t refl)
 was_not : (instants : List ℕ) (intervals : ℕ) (s u v w : Slot) → s ≡ v → u ≡ w → Tells false (InTurn instants intervals s u) → InTurn instants intervals v w → ⊥
 was_not instants intervals s u v w e f t h = tells_not t refl (rw (e, f) h)
 
--- from slot i - 1 and slot i to slot i and slot i + 1
-next : (T : ℕ → ℕ → Type 0) (p m : ℕ) {r : Bool} → Tells r ((i : ℕ) → i < m → p + 1 ≤ i → T (i - 1) i) → Tells r ((i : ℕ) → i + 1 < m → p ≤ i → T i (i + 1))
-next T p m t =
-    tells_by t
-    (λ all i l g. let back : i + 1 - 1 ≡ i = omega arith in rw back at (all (i + 1) l (omega arith)))
-    (λ all i l g. let back : i - 1 + 1 ≡ i = omega arith in rw back at (all (i - 1) (omega arith) (omega arith)))
-
 pub returns : goal.returns
 returns c =
     let A = c.args in
-    next (λ i j. InTurn A.instants.now.at (A.instants.now.count - 1) (slot_in A.plan.now i) (slot_in A.plan.now j)) A.p _
+    tells_next (λ i j. InTurn A.instants.now.at (A.instants.now.count - 1) (slot_in A.plan.now i) (slot_in A.plan.now j)) A.p _
     (tells_all (A.p + 1) _ _ _ _ (λ i. InTurn A.instants.now.at (A.instants.now.count - 1) (slot_in A.plan.now (i - 1)) (slot_in A.plan.now i))
     c.all.ensures.ran (cc) (λ x q k. search (rules, was)) (λ x q k. search (rules, was_not)))

@@ -1,21 +1,28 @@
--- `rates_fall` meets its contract: every class passed is faster than the next.
-use borrow.Author.Count.{below_more}
-use Rattle.judge_clauses.proofs.Tell.{tells_not, tells_off, tells_on, tells_was}
+-- `rates_fall` meets its contract: every class is faster than the next (Ranges).
+use mathlib.Core.Bool.{false, true}
+use mathlib.Core.Path.{◌≡◌, refl}
+use Prim.Native.Nat.{◌-◌}
 use native.Mathlib.Omega.{arith}
+use Rattle.std.proofs.Common.{rules}
+use Rattle.model.specs.Plans.{Class}
+use Rattle.records.specs.Plan.{class_in}
+use Rattle.judge_clauses.specs.Tests.{Falls, Tells}
+use Rattle.judge_clauses.proofs.Ranges.{tells_all, tells_next}
+use Rattle.judge_clauses.proofs.Tell.{tells_by, tells_not, tells_was}
 use Rattle.judge_rates.proofs.rates_fall.Goals as goal
 
-pub loop-i-init : goal.loop-i-init
-loop-i-init c = (omega arith, λ k l. absurd (omega arith))
+-- the two classes that were read are the plan's
+was : (c d v w : Class) → c ≡ v → d ≡ w → Tells true (Falls c d) → Falls v w
+was c d v w e f t = rw (e, f) at (tells_was t refl)
 
-pub returns-then-not-falls : goal.returns-then-not-falls
-returns-then-not-falls c =
-    tells_off (λ all.
-    tells_not c.falls.ensures c.if-not-falls.true (rw (c.class_at-c.ensures, c.class_at-d.ensures) (all c.loop-i.i (omega arith))))
-
-pub loop-i-preserved : goal.loop-i-preserved
-loop-i-preserved c =
-    let falls = tells_was c.falls.ensures c.if-not-falls.false in
-    (omega arith, below_more _ _ c.loop-i.invariant.1 (rw (c.class_at-c.ensures, c.class_at-d.ensures) at falls))
+was_not : (c d v w : Class) → c ≡ v → d ≡ w → Tells false (Falls c d) → Falls v w → ⊥
+was_not c d v w e f t h = tells_not t refl (rw (e, f) h)
 
 pub returns : goal.returns
-returns c = tells_on (λ k l. c.loop-i.invariant.1 k (omega arith))
+returns c =
+    let A = c.args in
+    tells_by
+    (tells_next (λ i j. Falls (class_in A.plan.now i) (class_in A.plan.now j)) 0 A.p
+    (tells_all 1 _ _ _ _ (λ i. Falls (class_in A.plan.now (i - 1)) (class_in A.plan.now i)) c.all.ensures.ran (cc)
+    (λ x q k. search (rules, was)) (λ x q k. search (rules, was_not))))
+    (λ all i l. all i l (omega arith)) (λ all i l g. all i l)
