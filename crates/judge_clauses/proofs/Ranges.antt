@@ -38,11 +38,11 @@ module _ {P : ℕ → Type 0} where
 pub tells_all : {F : Type 0} {g : Mut F (ℕ × Unit {0}) Bool} {s : Range ℕ} (p m : ℕ) (u : Range ℕ) (f : F) (r : Bool) (P : ℕ → Type 0)
     → (xs : List ℕ) × (o : Option ℕ) × (j : F) × YieldsThen nat_range_steps s xs o u × FoldsTo (λ p x q. Called g p (x, tt) true q) f xs j
     × MatchOption o (r ≡ true) (λ x. (r ≡ false) × ((h : F) × Called g j (x, tt) false h))
-    → s ≡ record { start = p; end = m }
-    → ((x : ℕ) (q : F) → Called g f (x, tt) true q → (q ≡ f) × P x) → ((x : ℕ) (q : F) → Called g f (x, tt) false q → P x → ⊥)
-    → Tells r ((i : ℕ) → i < m → p ≤ i → P i)
-tells_all p m u f r P ran e holds fails =
-    tells_range p m r (cases_from_all u f r P (λ i. P i → ⊥) ran (YieldsList-from_range p m (m - p) e refl) holds fails)
+    → s ≡ record { start = p; end = m } → ((x : ℕ) (b : Bool) (q : F) → Called g f (x, tt) b q → (q ≡ f) × Tells b (P x)) → Tells r ((i : ℕ) → i < m → p ≤ i → P i)
+tells_all p m u f r P ran e told =
+    tells_range p m r
+    (cases_from_all u f r P (λ i. P i → ⊥) ran (YieldsList-from_range p m (m - p) e refl)
+    (λ x q k. let t = told x true q k in (t.0, t.1.yes refl)) (λ x q k. (told x false q k).1.no refl))
 
 -- neighbours: from number i - 1 and number i to number i and number i + 1
 pub tells_next : (T : ℕ → ℕ → Type 0) (p m : ℕ) {r : Bool} → Tells r ((i : ℕ) → i < m → p + 1 ≤ i → T (i - 1) i) → Tells r ((i : ℕ) → i + 1 < m → p ≤ i → T i (i + 1))

@@ -68,16 +68,3 @@ tells_class plan i e = tells_both _ _ _ e (λ k b. record { kind = k; blank = b 
 pub tells_slot : (plan : List ℕ) (i : ℕ) {t : Bool} → t ≡ is_slot plan i → Tells t (SlotRow (record_at plan i))
 unfolding is_slot
 tells_slot plan i e = tells_both _ _ _ e (λ k b. record { kind = k; blank = b }) (λ h. (h.kind, h.blank))
-
--- the same of a test that answered, as a closure's call has it
-pub class_was : (plan : List ℕ) (i : ℕ) → true ≡ is_class plan i → ClassRow (record_at plan i)
-class_was plan i e = tells_was (tells_class plan i refl) (sym e)
-
-pub class_was_not : (plan : List ℕ) (i : ℕ) → false ≡ is_class plan i → ClassRow (record_at plan i) → ⊥
-class_was_not plan i e = tells_not (tells_class plan i refl) (sym e)
-
-pub slot_was : (plan : List ℕ) (i : ℕ) → true ≡ is_slot plan i → SlotRow (record_at plan i)
-slot_was plan i e = tells_was (tells_slot plan i refl) (sym e)
-
-pub slot_was_not : (plan : List ℕ) (i : ℕ) → false ≡ is_slot plan i → SlotRow (record_at plan i) → ⊥
-slot_was_not plan i e = tells_not (tells_slot plan i refl) (sym e)

@@ -1,4 +1,4 @@
--- What the judge tests of plan bytes, over the structs in which it holds an order and its instants: document 01, "A plan stands", with the sets of doses named by
+-- What the judge tests of plan bytes, over an order and its instants as they are held: document 01, "A plan stands", with the sets of doses named by
 -- the plan's own slots. No share is raised: the plan is its own certificate.
 use Rattle.std.specs.Prelude.{◌≡◌, Bool, true, false, List, ℕ, zero, suc, ◌+◌, ◌-◌, ◌*◌, ◌/◌, ◌%◌, ◌<◌, ◌≤◌, ◌&&◌, eqb, leb, ltb, length, get_or}
 use Rattle.model.specs.Limits.{most_doses}
@@ -101,6 +101,10 @@ number_of plan p k (suc n) = pick (eqb (slot_in plan (p + n)).dose k) (slot_in p
 pub record ClassNumbers (plan : List ℕ) (p e : ℕ) (numbers : List ℕ) : Type 0 where
   pub each : (k : ℕ) → k < most_doses → get_or numbers k 0 ≡ number_of plan p k (e - p)
 
+-- every dose's number is that of one of the plan's records
+abbrev pub Known : ℕ → List ℕ → List ℕ → Type 0
+Known doses plan numbers = (k : ℕ) → k < doses → (1 ≤ get_or numbers k 0) × (get_or numbers k 0 ≤ length plan / record_size)
+
 -- ---- clauses
 
 -- "the C records are exactly the order's classes": of the sets that the slots name
@@ -110,10 +114,6 @@ pub record ClassFits (h : OrderHeld) (numbers : List ℕ) (i : ℕ) (c : Class) 
   pub some : 1 ≤ c.doses
   pub weight : c.weight ≡ W (setting_in h) (sets_of numbers i)
   pub time : c.time ≡ class_p (setting_in h) (fans_held h) (sets_of numbers) i
-
--- every dose's number is that of one of the plan's records
-abbrev pub Known : ℕ → List ℕ → List ℕ → Type 0
-Known doses plan numbers = (k : ℕ) → k < doses → (1 ≤ get_or numbers k 0) × (get_or numbers k 0 ≤ length plan / record_size)
 
 -- the same, from numbers that were worked out
 pub record Says (c : Class) (i size weight time : ℕ) : Type 0 where
@@ -209,9 +209,3 @@ pub record Passes (h : OrderHeld) (plan : List ℕ) (p : ℕ) (numbers : List �
   pub turns : (i : ℕ) → i + 1 < length plan / record_size → p ≤ i → InTurn h.instants h.intervals (slot_in plan i) (slot_in plan (i + 1))
   pub apart : (i : ℕ) → i < length plan / record_size → p ≤ i → ApartAfter h.instants h.intervals plan i (length plan / record_size)
   pub totals : (k : ℕ) → k < h.doses → units_up_to plan p (length plan / record_size) k ≡ need_in h.grams plan numbers k
-
--- what the judge finds of plan bytes: the classes in front and the class numbers of the doses, and whether the bytes pass
-pub record Finds (h : OrderHeld) (plan : List ℕ) (p : ℕ) (numbers : List ℕ) (r : Bool) : Type 0 where
-  pub leads : Leads plan p
-  pub named : ClassNumbers plan p (length plan / record_size) numbers
-  pub tells : Tells r (Passes h plan p numbers)

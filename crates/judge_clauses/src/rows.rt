@@ -3,7 +3,7 @@ ghost use Rattle.std.specs.Prelude.{ℕ, ◌/◌, ◌<◌, ◌≤◌, length};
 ghost use Rattle.model.specs.Records.{record_at, record_size};
 ghost use Rattle.judge_clauses.specs.Tests.{Tells, ClassRow, SlotRow, Leads};
 
-use records::{CLASS_KIND, is_class, is_slot, kind_at, record_count};
+use records::{Kind, is_class, is_slot, kind_at, record_count};
 
 // How many C records stand in front: "classes by number, then slots".
 pub fn lead(plan: &[u8]) -> usize
@@ -11,7 +11,7 @@ pub fn lead(plan: &[u8]) -> usize
 {
     let m = record_count(plan);
     for i in 0..m {
-        if kind_at(plan, i) != CLASS_KIND {
+        if kind_at(plan, i) != Kind::Class {
             return i;
         }
     }

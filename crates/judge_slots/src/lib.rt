@@ -42,7 +42,7 @@ pub fn interval_of(instants: &Instants, tick: u32) -> usize
     requires { instants.now.count ≤ most_instants }
     ensures { (result ≡ interval_of instants.now.at (instants.now.count - 1) tick) × (result ≤ instants.now.count - 1) }
 {
-    let intervals = interval_count(*instants);
+    let intervals = interval_count(instants);
     for j in 0..intervals {
         if tick < instants.at[j + 1] {
             return j;
@@ -57,7 +57,7 @@ fn in_place(s: Slot, instants: &Instants) -> bool
     ensures { Tells result (InPlace instants.now.at (instants.now.count - 1) (as_slot s)) }
 {
     let j = interval_of(instants, s.start_tick);
-    j < interval_count(*instants) && between(s, instants.at[j], instants.at[j + 1])
+    j < interval_count(instants) && between(s, instants.at[j], instants.at[j + 1])
 }
 
 // One slot by itself.

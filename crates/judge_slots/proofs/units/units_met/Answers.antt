@@ -1,17 +1,19 @@
 -- `units_met` meets its contract: the sums so far are those of the slots passed, none above its need (Totals).
-use mathlib.Core.Path.{◌≡◌, ◌∙◌, ap}
+use mathlib.Core.Bool.{Bool}
+use mathlib.Core.Path.{◌≡◌, ◌∙◌, ap, sym}
 use Prim.Native.Nat.{ℕ, ◌*◌, ◌<◌, ◌≤◌}
 use mathlib.Core.List.{List}
+use lib.Dec.{eqb}
 use lib.ListN.{get_or}
-use Rattle.std.proofs.Common.{rules, tests}
+use Rattle.std.proofs.Common.{rules}
 use Rattle.model.specs.Orders as orders
 use Rattle.model.specs.Plans.{Slot}
 use Rattle.order.specs.declared.Order.{Order}
 use Rattle.order.specs.Held.{dose_held}
 use Rattle.records.specs.Plan.{slot_in}
-use Rattle.judge_clauses.specs.Tests.{Counts, need_in}
+use Rattle.judge_clauses.specs.Tests.{Counts, Tells, need_in}
 use Rattle.judge_clauses.proofs.Ranges.{tells_all}
-use Rattle.judge_clauses.proofs.Tell.{tells_by, tells_off}
+use Rattle.judge_clauses.proofs.Tell.{tells_by, tells_eqb, tells_off}
 use Rattle.judge_slots.proofs.Totals.{SlotRead, Summed, over_need, summed_more, summed_none, tells_summed}
 use native.Mathlib.Omega.{arith}
 use Rattle.judge_slots.proofs.units.units_met.Goals as goal
@@ -43,10 +45,14 @@ loop-i-preserved c =
     let ends = c.ends.ensures in
     rw (starts, ends) (summed_more slot c.requires.0 (omega (arith, c.if-need-had.false)))
 
+-- a sum that was held against a dose's need
+told : (b : Bool) (x y z : ℕ) → b ≡ eqb x y → y ≡ z → Tells b (x ≡ z)
+told b x y z e n = rw e (tells_eqb x y (λ q. q ∙ n) (λ q. q ∙ sym n))
+
 pub returns : goal.returns
 returns c =
     let A = c.args in
     tells_summed c.loop-i.invariant (omega arith)
     (tells_by (tells_all 0 A.o.now.count _ _ _ (λ k. get_or c.loop-i.sums k 0 ≡ need_in (grams_of A.o.now) A.plan.now A.certificate.now.numbers k) c.all.ensures.ran (cc)
-    (λ x q k. search (rules, tests)) (λ x q k. search (rules, tests)))
+    (λ x b q k. search (rules, told)))
     (λ all k l. all k l (omega arith)) (λ all k l g. all k l))
