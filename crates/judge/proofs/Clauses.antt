@@ -4,17 +4,13 @@ use Prim.Native.Nat.{ℕ, ◌+◌, ◌/◌, ◌<◌, ◌≤◌}
 use lib.ListN.{length}
 use Rattle.model.specs.Records.{record_size}
 use Rattle.records.specs.Plan.{slot_in}
-use Rattle.judge_clauses.specs.Tests.{Counts, InTurn, SlotsReady, OrderHeld, SlotFits}
+use Rattle.judge_clauses.specs.Tests.{InTurn, SlotsReady, OrderHeld, SlotFits}
 use Rattle.judge_slots.proofs.Places.{turns_all}
 use Rattle.judge_pairs.proofs.Turns.{turn_place}
 
 module _ (h : OrderHeld) (plan : List ℕ) (p : ℕ) (numbers : List ℕ)
     (slots : (i : ℕ) → i < length plan / record_size → p ≤ i → SlotFits h plan numbers (slot_in plan i)) where
-  -- slots that fit have units to count
-  pub counts_of : (i : ℕ) → i < length plan / record_size → p ≤ i → Counts h.doses plan numbers (slot_in plan i)
-  counts_of i l g = let f = slots i l g in record { dose = f.dose; time = f.names.time; long = f.long.long }
-
-  -- and in turn, they can be held against each other
+  -- slots that fit and are in turn can be held against each other
   pub ready_of : ((i : ℕ) → i + 1 < length plan / record_size → p ≤ i → InTurn h.instants h.intervals (slot_in plan i) (slot_in plan (i + 1)))
       → SlotsReady h.instants h.intervals plan p
   ready_of turns = record {

@@ -1,5 +1,5 @@
 -- The class numbers of the doses, slot by slot. Assumes nothing.
-use mathlib.Core.Path.{◌≡◌, ◌∙◌, ap, subst, sym}
+use mathlib.Core.Path.{◌≡◌, ◌∙◌, ap, sym}
 use mathlib.Core.Logic.{◌≢◌}
 use mathlib.Core.List.{List}
 use Prim.Native.Nat.{ℕ, zero, suc, ◌+◌, ◌-◌, ◌<◌, ◌≤◌}
@@ -46,9 +46,6 @@ module _ (b : List ℕ) (p k : ℕ) where
 
 pub numbers_none : (b : List ℕ) (p : ℕ) → ClassNumbers b p p (replicate most_doses 0)
 numbers_none b p = record { each = λ k h. get_or-replicate most_doses k 0 0 h ∙ sym (number_none b p k) }
-
-pub numbers_to : {b : List ℕ} {p i e : ℕ} {N : List ℕ} → i ≡ e → ClassNumbers b p i N → ClassNumbers b p e N
-numbers_to {b} {p} {i} {e} {N} q n = subst (λ (x : ℕ). ClassNumbers b p x N) q n
 
 -- one slot more
 pub numbers_more : (b : List ℕ) (p i : ℕ) (N N' : List ℕ) (s : Slot) → as_slot s ≡ slot_in b i → ClassNumbers b p i N

@@ -1,7 +1,9 @@
 -- The arrays of an order, and what the tests over them tell of the order.
-use mathlib.Core.Bool.{Bool, true}
+use mathlib.Core.Bool.{Bool, true, false}
 use mathlib.Core.List.{List}
-use mathlib.Core.Path.{◌≡◌, ap, ◌∙◌}
+use mathlib.Core.Path.{◌≡◌, ap, refl, sym, ◌∙◌}
+use Rattle.std.specs.Prelude.{MatchOption, Option, Some, None}
+use Rattle.std.specs.Bool.{then_some}
 use Prim.Native.Nat.{ℕ, ◌*◌, ◌-◌, ◌/◌, ◌<◌, ◌≤◌}
 use native.Mathlib.Omega.{arith}
 use lib.Dec.{T, ltb→lt, lt→ltb}
@@ -12,7 +14,8 @@ use Rattle.model.specs.Orders as model
 use Rattle.model.specs.Intervals.{fans_present, setting_of}
 use Rattle.model.specs.Classes.{P, W, free, remaining, set_number}
 use Rattle.model.specs.Plans as plans
-use Rattle.model.specs.Answers.{FirstClass, above_top}
+use Rattle.model.specs.Stands.{Stands}
+use Rattle.model.specs.Answers.{FirstClass, above_top, too_fast}
 use Rattle.model.proofs.Orders.{Fit}
 use Rattle.model.proofs.Sets.{weight_alike}
 use Rattle.model.proofs.FanTime.{P-alike}
@@ -24,23 +27,22 @@ use Rattle.interval.specs.declared.Instants.{Instants}
 use Rattle.interval.specs.Held.{InstantsOf}
 use Rattle.interval.proofs.Laws.{count_is, instant_is}
 use Rattle.records.specs.Plan.{class_in}
-use Rattle.judge_clauses.specs.Tests.{Finds, Passes, OrderHeld, HeldFrom, order_held}
+use Rattle.judge_clauses.specs.declared.Certificate.{Certificate}
+use Rattle.judge_clauses.specs.Tests.{ClassNumbers, HeldFrom, Leads, OrderHeld, Passes, Tells, order_held}
 use Rattle.measure.specs.Arrays.{sets_of}
-use Rattle.judge.specs.Verdict.{Against, Certifies, Leader, fast, fast_by, slow}
-use Rattle.judge.specs.declared.Judged.{Judged}
-use Rattle.judge.specs.declared.Judged.TheVariants as is
-use Rattle.judge_clauses.proofs.Tell.{tells_by}
+use Rattle.classes.specs.Answer.{AgainstTop, nine}
+use Rattle.classes.specs.declared.TooFast.{TooFast}
+use Rattle.judge.specs.Verdict.{Certified, Leader}
 use Rattle.judge.proofs.Held.{same_weight, same_time}
 use Rattle.judge.proofs.Certified.{passes_classes, passes_stands}
 use Rattle.judge.proofs.Complete.{stands_passes}
 
 module _ (o : Order) where
-  -- its arrays hold it
-  pub holds : (s : Instants) → InstantsOf o s → (J : ℕ) → J ≡ s.count - 1
-      → HeldFrom (as_order o) (order_held o.count J o.fans o.release o.deadline o.grams s.at)
-  holds s of J e = record {
+  -- it and its instants hold it
+  pub holds : (s : Instants) → InstantsOf o s → HeldFrom (as_order o) (order_held o s)
+  holds s of = record {
     doses = doses_is o;
-    intervals = e ∙ ap (λ (n : ℕ). n - 1) (count_is o s of);
+    intervals = ap (λ (n : ℕ). n - 1) (count_is o s of);
     fans = fans_is o;
     release = λ k l. ap (λ (d : model.Dose). d.release) (dose_is o k l);
     deadline = λ k l. ap (λ (d : model.Dose). d.deadline) (dose_is o k l);
@@ -63,18 +65,38 @@ module _ (o : model.Order) (fit : Fit o) (h : OrderHeld) (sh : HeldFrom o h) (pl
         time = λ l. (q.classes 0 l).time ∙ same_time o h sh (sets_of numbers) 0;
       }
 
-  pub certifies : (r : Bool) → Finds h plan p numbers r → Certifies o plan r p numbers
-  certifies r f = record {
-    tells = tells_by f.tells (passes_stands o fit h sh plan p numbers f.leads.short) (stands_passes o fit h sh plan p numbers f.leads f.named);
-    leader = λ e. leads f.leads.short (f.tells.yes e);
-  }
+-- bytes that pass stand, and their first record is the first class; others do not stand
+pub certified : (o : model.Order) → Fit o → (h : OrderHeld) → HeldFrom o h → (plan : List ℕ) (c : Certificate) → Leads plan c.classes
+    → ClassNumbers plan c.classes (length plan / record_size) c.numbers → (r : Bool) → Tells r (Passes h plan c.classes c.numbers)
+    → MatchOption (then_some r c) (¬ Stands o plan) (λ x. Certified o plan x)
+certified o fit h sh plan c l n true t =
+    let q = t.yes refl in
+    record { stands = passes_stands o fit h sh plan c.classes c.numbers l.short q; leader = leads o fit h sh plan c.classes c.numbers l.short q }
+certified o fit h sh plan c l n false t = λ st. t.no refl (stands_passes o fit h sh plan c.classes c.numbers l n st)
 
 -- ---- the first class against the top rate
 
-module _ (o : model.Order) (other : Judged) (A : Doses) (f : FirstClass o A) where
+-- none is above it
+pub not_above : (o : model.Order) → ((A : Doses) → FirstClass o A → T (above_top o A) → ⊥) → AgainstTop o None
+not_above o f = record { slow = λ e. f; above = λ r e. absurd (differ r e) }
+  where
+    differ : (r : TooFast) → ◌≡◌ {A = Option TooFast} None (Some r) → ⊥
+    differ r e = cc
+
+-- A is
+pub is_above : (o : model.Order) (r : TooFast) (A : Doses) → FirstClass o A → T (above_top o A) → nine r ≡ too_fast o A → AgainstTop o (Some r)
+is_above o r A f t e = record { slow = λ q. absurd (differ q); above = λ g q. (A, f, t, ap nine (sym (same g q)) ∙ e) }
+  where
+    differ : ◌≡◌ {A = Option TooFast} (Some r) None → ⊥
+    differ q = cc
+
+    same : (g : TooFast) → ◌≡◌ {A = Option TooFast} (Some r) (Some g) → r ≡ g
+    same g q = cc
+
+module _ (o : model.Order) (A : Doses) (f : FirstClass o A) where
   -- any first class is this one
-  pub slow_if : W (setting_of o) A * o.top_seconds ≤ P (setting_of o) (fans_present o) A * o.top_grams → Against o other other
-  slow_if l = slow (λ B g t.
+  slow_if : W (setting_of o) A * o.top_seconds ≤ P (setting_of o) (fans_present o) A * o.top_grams → AgainstTop o None
+  slow_if l = not_above o (λ B g t.
       let same = next_unique (setting_of o) (fans_present o) (λ k. true) B A g f in
       omega (
         arith,
@@ -83,13 +105,9 @@ module _ (o : model.Order) (other : Judged) (A : Doses) (f : FirstClass o A) whe
         ap (λ (y : ℕ). y * o.top_grams) (P-alike (setting_of o) (fans_present o) B A same),
       ))
 
--- a verdict 9 for a first class
-pub fast_by_lem : (o : model.Order) (other r : Judged) (A : Doses) → FirstClass o A → T (above_top o A) → r ≡ fast_by o A → Against o other r
-fast_by_lem o other r A f t e = rw e (fast A f t)
-
 -- ---- as the plan's first record has it
 
-module _ (o : Order) (other : Judged) {plan : List ℕ} {p : ℕ} {numbers : List ℕ} (leader : Leader (as_order o) plan p numbers) (l : 0 < p)
+module _ (o : Order) {plan : List ℕ} {p : ℕ} {numbers : List ℕ} (leader : Leader (as_order o) plan p numbers) (l : 0 < p)
     {c : plans.Class} (e : c ≡ class_in plan 0) where
   abbrev A : Doses
   A = sets_of numbers 0
@@ -100,13 +118,13 @@ module _ (o : Order) (other : Judged) {plan : List ℕ} {p : ℕ} {numbers : Lis
   time_is : c.time ≡ P (setting_of (as_order o)) (fans_present (as_order o)) A
   time_is = ap (λ (x : plans.Class). x.time) e ∙ leader.time l
 
-  pub leader_slow : c.weight * o.top_seconds ≤ c.time * o.top_grams → Against (as_order o) other other
-  leader_slow h = slow_if (as_order o) other A (leader.first l) (rw (← weight_is, ← time_is, ← top_seconds_is o, ← top_grams_is o) h)
+  pub leader_slow : c.weight * o.top_seconds ≤ c.time * o.top_grams → AgainstTop (as_order o) None
+  leader_slow h = slow_if (as_order o) A (leader.first l) (rw (← weight_is, ← time_is, ← top_seconds_is o, ← top_grams_is o) h)
 
   pub leader_fast : (set g t : ℕ) → set ≡ set_number o.count A → g ≡ c.weight → t ≡ c.time → c.time * o.top_grams < c.weight * o.top_seconds
-      → Against (as_order o) other (is.TooFast set g t)
+      → AgainstTop (as_order o) (Some (record { set = set; weight = g; time = t }))
   leader_fast set g t es eg et h =
-      fast_by_lem (as_order o) other _ A (leader.first l)
+      is_above (as_order o) _ A (leader.first l)
       (lt→ltb (P (setting_of (as_order o)) (fans_present (as_order o)) A * (as_order o).top_grams) (W (setting_of (as_order o)) A * (as_order o).top_seconds)
       (rw (← weight_is, ← time_is, ← top_seconds_is o, ← top_grams_is o) h))
       (rw (es ∙ ap (λ (n : ℕ). set_number n A) (doses_is o), eg ∙ weight_is, et ∙ time_is))

@@ -1,49 +1,43 @@
 // Refusal 9: "first class: W × top seconds above P × top grams".
 ghost use Rattle.model.proofs.Orders.{Fit};
 ghost use Rattle.order.specs.Held.{as_order};
-ghost use Rattle.judge.specs.Verdict.{Against, Leader};
+ghost use Rattle.classes.specs.Answer.{AgainstTop};
+ghost use Rattle.judge.specs.Verdict.{Leader};
 
-use crate::Judged;
+use classes::{TooFast, classes_of, too_fast};
+use judge_clauses::Certificate;
 use measure::first_set;
 use order::Order;
 use records::class_at;
 use steps::limits::{CELLS, MOST_DOSES, MOST_INTERVALS};
-use steps::{excess, wide};
+use steps::product;
 
 // A plan that stands names the order's first class in its first record.
-pub fn against_top(o: Order, plan: &[u8], classes: usize, numbers: [u32; MOST_DOSES]) -> Judged
-    requires { Fit (as_order o) × Leader (as_order o) plan.now classes numbers }
-    ensures { Against (as_order o) Judged.Stands result }
+pub fn by_certificate(o: &Order, plan: &[u8], certificate: &Certificate) -> Option<TooFast>
+    requires { Fit (as_order o.now) × Leader (as_order o.now) plan.now certificate.now.classes certificate.now.numbers }
+    ensures { AgainstTop (as_order o.now) result }
 {
-    if classes == 0 {
-        return Judged::Stands;
+    if certificate.classes == 0 {
+        return None;
     }
     let c = class_at(plan, 0);
-    if excess(c.weight, c.time, o.top_grams, o.top_seconds) == 0 {
-        return Judged::Stands;
+    if product(c.weight, o.top_seconds) <= product(c.time, o.top_grams) {
+        return None;
     }
-    Judged::TooFast {
-        set: first_set(numbers, o.count),
-        weight: wide(c.weight),
-        time: wide(c.time),
-    }
+    Some(TooFast {
+        set: first_set(&certificate.numbers, o.count),
+        weight: u64::from(c.weight),
+        time: u64::from(c.time),
+    })
 }
 
 // Where the plan does not stand, the classes are worked out to tell 9 from 10.
-pub fn fallen(o: Order) -> Judged
-    requires { Fit (as_order o) }
-    ensures { Against (as_order o) Judged.Falls result }
+pub fn by_classes(o: &Order) -> Option<TooFast>
+    requires { Fit (as_order o.now) }
+    ensures { AgainstTop (as_order o.now) result }
 {
     let mut shares = [0u64; CELLS];
     let mut table = [[0u8; MOST_INTERVALS]; MOST_DOSES];
-    let t = classes::classes_of(o, &mut shares, &mut table);
-    let top = classes::too_fast(o, t);
-    if top.above {
-        return Judged::TooFast {
-            set: top.set,
-            weight: top.weight,
-            time: top.time,
-        };
-    }
-    Judged::Falls
+    let t = classes_of(o, &mut shares, &mut table);
+    too_fast(o, &t)
 }

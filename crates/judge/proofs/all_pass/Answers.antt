@@ -1,70 +1,46 @@
--- `all_pass` meets its contract: each test asks for one clause; later ones rest on earlier ones (Clauses).
+-- `all_pass` meets its contract: each test asks for one clause; that slots can be held against each other rests on earlier ones (Clauses).
+use Rattle.std.proofs.Common.{rules}
 use Rattle.judge_clauses.specs.Tests.{order_held}
-use Rattle.judge_clauses.proofs.Tell.{tells_by, tells_not, tells_off, tells_was}
-use Rattle.judge.proofs.Clauses.{counts_of, ready_of}
-use native.Mathlib.Omega.{arith}
+use Rattle.judge_clauses.proofs.Tell.{tells_by}
+use Rattle.judge.proofs.Clauses.{ready_of}
 use Rattle.judge.proofs.all_pass.Goals as goal
-
-pub rows_pass-requires : goal.rows_pass-requires
-rows_pass-requires c = (c.requires.0, c.requires.1)
-
-pub returns-then-not-rows_pass : goal.returns-then-not-rows_pass
-returns-then-not-rows_pass c = tells_off (λ h. tells_not c.rows_pass.ensures c.if-not-rows_pass.true h.rows)
-
-pub classes_fit-requires : goal.classes_fit-requires
-classes_fit-requires c =
-    let rows = tells_was c.rows_pass.ensures c.if-not-rows_pass.false in
-    (c.requires.0, omega (arith, rows.few, c.requires.1), c.requires.1, c.requires.2)
-
-pub returns-then-not-classes_fit : goal.returns-then-not-classes_fit
-returns-then-not-classes_fit c = tells_off (λ h. tells_not c.classes_fit.ensures c.if-not-classes_fit.true h.classes)
-
-pub slots_fit-requires : goal.slots_fit-requires
-slots_fit-requires c =
-    let rows = tells_was c.rows_pass.ensures c.if-not-rows_pass.false in
-    (c.requires.1, c.requires.2, λ k l. let number = rows.numbered k l in (number.0, omega (arith, number.1)))
-
-pub returns-then-not-slots_fit : goal.returns-then-not-slots_fit
-returns-then-not-slots_fit c = tells_off (λ h. tells_not c.slots_fit.ensures c.if-not-slots_fit.true h.slots)
-
-pub all_in_turn-requires : goal.all_in_turn-requires
-all_in_turn-requires c =
-    let fits = tells_was c.slots_fit.ensures c.if-not-slots_fit.false in
-    (c.requires.2, c.requires.0, λ i l g. (fits i l g).long)
-
-pub returns-then-not-all_in_turn : goal.returns-then-not-all_in_turn
-returns-then-not-all_in_turn c = tells_off (λ h. tells_not c.all_in_turn.ensures c.if-not-all_in_turn.true h.turns)
+use Rattle.judge.proofs.all_pass.Goals.{else-all_in_turn, else-classes_fit, else-rows_pass, else-slots_fit}
+use Rattle.judge.proofs.all_pass.Goals.{then-all_in_turn, then-classes_fit, then-rows_pass, then-slots_fit}
 
 pub all_clear-requires : goal.all_clear-requires
 all_clear-requires c =
     let A = c.args in
-    let turns = tells_was c.all_in_turn.ensures c.if-not-all_in_turn.false in
-    let held = order_held A.doses A.intervals A.fans A.release.now A.deadline.now A.grams.now A.instants.now in
-    (c.requires.2, ready_of held A.plan.now A.p A.numbers.now (tells_was c.slots_fit.ensures c.if-not-slots_fit.false) turns)
+    elim c.if-classes_fit.branch [
+      | then-classes_fit v ↦ elim c.if-slots_fit.branch [
+        | then-slots_fit w ↦
+            (c.requires.2, ready_of (order_held A.o.now A.instants.now) A.plan.now A.certificate.now.classes A.certificate.now.numbers (v.slots_fit.ensures.yes (cc)) (w.all_in_turn.ensures.yes (cc)))
+        | else-slots_fit w ↦ search rules
+      ]
+      | else-classes_fit v ↦ search rules
+    ]
 
-pub returns-then-not-all_clear : goal.returns-then-not-all_clear
-returns-then-not-all_clear c = tells_off (λ h. tells_not c.all_clear.ensures c.if-not-all_clear.true h.apart)
-
-pub units_met-requires : goal.units_met-requires
-units_met-requires c =
-    let A = c.args in
-    let held = order_held A.doses A.intervals A.fans A.release.now A.deadline.now A.grams.now A.instants.now in
-    let rows = tells_was c.rows_pass.ensures c.if-not-rows_pass.false in (
-      c.requires.1,
-      c.requires.0,
-      λ k l. let number = rows.numbered k l in (number.0, omega (arith, number.1)),
-      counts_of held A.plan.now A.p A.numbers.now (tells_was c.slots_fit.ensures c.if-not-slots_fit.false),
-    )
-
-pub returns : goal.returns
-returns c =
-    tells_by c.units_met.ensures
-    (λ totals. record {
-      rows = tells_was c.rows_pass.ensures c.if-not-rows_pass.false;
-      classes = tells_was c.classes_fit.ensures c.if-not-classes_fit.false;
-      slots = tells_was c.slots_fit.ensures c.if-not-slots_fit.false;
-      turns = tells_was c.all_in_turn.ensures c.if-not-all_in_turn.false;
-      apart = tells_was c.all_clear.ensures c.if-not-all_clear.false;
-      totals = totals;
-    })
-    (λ h. h.totals)
+pub returns-then-all_clear : goal.returns-then-all_clear
+returns-then-all_clear c =
+    elim c.if-rows_pass.branch [
+      | then-rows_pass r ↦ elim c.if-classes_fit.branch [
+        | then-classes_fit v ↦ elim c.if-slots_fit.branch [
+          | then-slots_fit w ↦ elim c.if-all_in_turn.branch [
+            | then-all_in_turn t ↦
+                tells_by c.units_met.ensures
+                (λ totals. record {
+                  rows = c.rows_pass.ensures.yes r.if-rows_pass.true;
+                  classes = r.classes_fit.ensures.yes (cc);
+                  slots = v.slots_fit.ensures.yes (cc);
+                  turns = w.all_in_turn.ensures.yes (cc);
+                  apart = t.all_clear.ensures.yes (cc);
+                  totals = totals;
+                })
+                (λ h. h.totals)
+            | else-all_in_turn t ↦ search rules
+          ]
+          | else-slots_fit w ↦ search rules
+        ]
+        | else-classes_fit v ↦ search rules
+      ]
+      | else-rows_pass r ↦ search rules
+    ]
