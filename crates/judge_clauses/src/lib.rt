@@ -5,9 +5,9 @@ pub mod rows; // rows.rt: kinds and zeros
 
 use steps::limits::MOST_DOSES;
 
-// The plan as its own certificate: how many C records stand in front, and the class number of each dose, as the plan's own slots name it.
-// That these fit the plan's records is said by the clauses of those that ask it and not here: the tests of the rows come first, and several
-// tests of docs/PROMISES.md (`slot_rows`, `slots_fit`, `all_clear`) take any numbers.
+// The plan as its own certificate: how many C records stand in front, and the class number of each dose, as the plan's own slots name it. The bytes are
+// lent beside it, since half of the tests ask for no number. No fact of the type says that the numbers fit the bytes, or that an order has at most 24 doses
+// and 48 instants: tests that come first show it, and `slot_rows`, `slots_fit` and `all_clear` promise for any numbers (docs/PROMISES.md).
 #[derive(Clone, Copy)]
 pub struct Certificate {
     pub classes: usize,

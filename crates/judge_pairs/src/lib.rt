@@ -14,7 +14,8 @@ use judge_slots::interval_of;
 use records::{Slot, record_count, slot_at};
 use steps::product;
 
-// s ends at or before the moment at which u starts: ticks first, then products of parts, which fit 64 bits.
+// s ends at or before the moment at which u starts: ticks first, then products of parts, which fit 64 bits. That a slot is long is known only where
+// `slots_fit` has passed; a type that says so would be taken apart at every field that is read here.
 fn ends_by(s: Slot, u: Slot) -> bool
     requires { SlotLong (as_slot s) × SlotLong (as_slot u) }
     ensures { Tells result (EndsBy (as_slot s) (as_slot u)) }
