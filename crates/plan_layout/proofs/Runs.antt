@@ -12,7 +12,13 @@ use Rattle.model.specs.Lists.{gather}
 use Rattle.model.specs.Plans.{PlanRecord, plan_record_bytes, records_bytes}
 use Rattle.model.proofs.Lists.{length_gather, sum_before}
 use Rattle.model.proofs.Plans.{length_records, records_append}
+use Rattle.plan_layout.specs.declared.Plan.{Plan}
 use Rattle.plan_layout.specs.Laying.{Wrote}
+use Rattle.plan_layout.specs.Growing.{Fits, Grows}
+
+-- one of n gathered lists and those before it fit where all fit
+pub gather_fits : {A : Type 0} (f : ℕ → List A) (n k : ℕ) → k < n → length (gather k f) + length (f k) ≤ length (gather n f)
+gather_fits f n k h = omega (arith, length_gather n f, length_gather k f, sum_before n (λ i. length (f i)) k h)
 
 module _ {A : Type 0} {kind : A → PlanRecord} where
   -- the promise leaves no choice
@@ -43,17 +49,28 @@ module _ {A : Type 0} {kind : A → PlanRecord} where
         ∙ ap (written b (record_size * r)) (sym (ap records_bytes (map-append kind p q) ∙ records_append (map kind p) (map kind q)));
   }
 
+  -- ---- the same of a plan that grows
+
+  pub grows_none : {p : Plan} → Grows kind [] p p
+  grows_none = record { same_reference = refl; wrote = wrote_none _ _ }
+
+  pub grows_more : {l m : List A} {p q r : Plan} → Grows kind l p q → Grows kind m q r → Grows kind (l ++ m) p r
+  grows_more h g = record { same_reference = g.same_reference ∙ h.same_reference; wrote = wrote_more h.wrote g.wrote }
+
+  -- what is left of the room
+  pub fits_behind : {l : List A} {p q : Plan} (m n : ℕ) → Fits m p → Grows kind l p q → length l + n ≤ m → Fits n q
+  fits_behind m n f h e = omega (arith, f, h.wrote.next, wrote_length h.wrote, e)
+
   -- lists that are gathered, one at a time
-  module _ (f : ℕ → List A) where
-    pub gather_none : (b : List ℕ) (r : ℕ) → Wrote kind (gather 0 f) b r b r
+  module _ (f : ℕ → List A) {p : Plan} where
+    pub gather_none : Grows kind (gather 0 f) p p
     unfolding gather
-    gather_none = wrote_none
+    gather_none = grows_none
 
-    pub gather_more : {b b₁ b₂ : List ℕ} {r r₁ r₂ : ℕ} (k : ℕ) → Wrote kind (gather k f) b r b₁ r₁ → Wrote kind (f k) b₁ r₁ b₂ r₂
-        → Wrote kind (gather (k + 1) f) b r b₂ r₂
+    pub gather_more : {q r : Plan} (k : ℕ) → Grows kind (gather k f) p q → Grows kind (f k) q r → Grows kind (gather (k + 1) f) p r
     unfolding gather
-    gather_more k h g = rw add-one (wrote_more h g)
+    gather_more k h g = rw add-one (grows_more h g)
 
--- one of n gathered lists and those before it fit where all fit
-pub gather_fits : {A : Type 0} (f : ℕ → List A) (n k : ℕ) → k < n → length (gather k f) + length (f k) ≤ length (gather n f)
-gather_fits f n k h = omega (arith, length_gather n f, length_gather k f, sum_before n (λ i. length (f i)) k h)
+    -- room for one of n
+    pub gather_room : (n : ℕ) {q : Plan} (k : ℕ) → k < n → Fits (length (gather n f)) p → Grows kind (gather k f) p q → Fits (length (f k)) q
+    gather_room n k l r h = fits_behind (length (gather n f)) (length (f k)) r h (gather_fits f n k l)

@@ -1,6 +1,6 @@
 -- Laws of one share and of the shares of a class: numbers that fit, room in the buffer, slots written. Assumes nothing.
-use mathlib.Core.Path.{◌≡◌, refl, ap, ◌∙◌}
-use mathlib.Core.List.{List, map}
+use mathlib.Core.Path.{◌≡◌, refl, ap}
+use mathlib.Core.List.{List, [], ◌∷◌, map}
 use Prim.Native.Nat.{ℕ, ◌+◌, ◌*◌, ◌/◌, ◌%◌, ◌≤◌, ◌<◌}
 use native.Mathlib.Nat.{div-le_of_le-mul, mod-lt, mul-le-mul_right, mul-pos}
 use native.Mathlib.Numerals.{add-one}
@@ -8,15 +8,16 @@ use native.Mathlib.Omega.{arith}
 use lib.ListN.{length, length-map}
 use Rattle.model.specs.Records.{record_size}
 use Rattle.model.specs.Limits.{most_weight, most_fans, week}
-use Rattle.records.specs.Written.{written}
 use Rattle.model.specs.Sets.{sum}
 use Rattle.model.specs.Lists.{gather}
-use Rattle.model.specs.Plans.{Slot, plan_record_bytes, slot_record}
+use Rattle.model.specs.Plans.{Slot, slot_record}
 use Rattle.model.specs.Layout.{Lane, before, behind, cut, lane_slots, line, piece_slot, uncut}
 use Rattle.model.proofs.Lists.{map_gather, sum_before}
 use Rattle.model.proofs.Wrap.{cut_none, cut_two, cut_uncut}
-use Rattle.plan_layout.specs.Laying.{LaneReady, ShareRoom, LaneRoom, Wrote}
-use Rattle.plan_layout.proofs.Runs.{gather_fits, gather_more, gather_none, wrote_more, wrote_none, wrote_one}
+use Rattle.plan_layout.specs.declared.Plan.{Plan}
+use Rattle.plan_layout.specs.Laying.{LaneReady, ShareRoom, LaneRoom}
+use Rattle.plan_layout.specs.Growing.{Grows}
+use Rattle.plan_layout.proofs.Runs.{gather_fits, gather_more, gather_none, grows_more, grows_none, wrote_length}
 
 -- a unit of a stretch is in the week
 pub tick : (l : Lane) → LaneReady l → (s : ℕ) → s ≤ l.len * l.weight → l.start + s / l.weight ≤ week
@@ -48,32 +49,29 @@ module _ {l : Lane} {k a x r size : ℕ} (h : ShareRoom l k a x r size) where
   }
 
   -- room for a share that is not cut
-  pub room_one : (x ≡ 0 → ⊥) → a % (l.len * l.weight) + x ≤ l.len * l.weight → record_size * r + record_size ≤ size
+  pub room_one : (x ≡ 0 → ⊥) → a % (l.len * l.weight) + x ≤ l.len * l.weight → record_size * (r + 1) ≤ size
   room_one n q = omega (arith, h.room, ap length (cut_uncut (l.len * l.weight) k a x (omega arith) q))
 
   -- and for one that is
-  pub room_two : (x ≡ 0 → ⊥) → l.len * l.weight < a % (l.len * l.weight) + x → record_size * r + 64 ≤ size
+  pub room_two : (x ≡ 0 → ⊥) → l.len * l.weight < a % (l.len * l.weight) + x → record_size * (r + 2) ≤ size
   room_two n q = omega (arith, h.room, ap length (cut_two (l.len * l.weight) k a x (omega arith) q))
 
-module _ (l : Lane) (k a x r : ℕ) (b : List ℕ) where
+module _ (l : Lane) (k a x : ℕ) where
   -- what is promised of a share
-  abbrev LaidShare : ℕ → List ℕ → Type 0
-  LaidShare q b' = Wrote slot_record (map (piece_slot l) (cut (l.len * l.weight) k a x)) b r b' q
+  abbrev LaidShare : Plan → Plan → Type 0
+  LaidShare p q = Grows slot_record (map (piece_slot l) (cut (l.len * l.weight) k a x)) p q
 
-  pub laid_none : x ≡ 0 → LaidShare r b
-  laid_none e = rw (cut_none (l.len * l.weight) k a x e) (wrote_none b r)
+  pub laid_none : {p : Plan} → x ≡ 0 → LaidShare p p
+  laid_none e = rw (cut_none (l.len * l.weight) k a x e) grows_none
 
-  pub laid_one : {b' : List ℕ} {s : Slot} → (x ≡ 0 → ⊥) → a % (l.len * l.weight) + x ≤ l.len * l.weight → s ≡ piece_slot l (uncut (l.len * l.weight) k a x)
-      → b' ≡ written b (record_size * r) (plan_record_bytes (slot_record s)) → LaidShare (r + 1) b'
-  laid_one n q e f = rw (cut_uncut (l.len * l.weight) k a x (omega arith) q) (wrote_one e f)
+  pub laid_one : {p q : Plan} {s : Slot} → (x ≡ 0 → ⊥) → a % (l.len * l.weight) + x ≤ l.len * l.weight → s ≡ piece_slot l (uncut (l.len * l.weight) k a x)
+      → Grows slot_record (s ∷ []) p q → LaidShare p q
+  laid_one n f e g = rw (cut_uncut (l.len * l.weight) k a x (omega arith) f, ← e) g
 
-  pub laid_two : {b₁ b' : List ℕ} {s u : Slot} → (x ≡ 0 → ⊥) → l.len * l.weight < a % (l.len * l.weight) + x
+  pub laid_two : {p q r : Plan} {s u : Slot} → (x ≡ 0 → ⊥) → l.len * l.weight < a % (l.len * l.weight) + x
       → s ≡ piece_slot l (before (l.len * l.weight) k a x) → u ≡ piece_slot l (behind (l.len * l.weight) k a x)
-      → b₁ ≡ written b (record_size * r) (plan_record_bytes (slot_record s)) → b' ≡ written b₁ (record_size * r + record_size) (plan_record_bytes (slot_record u)) → LaidShare (r + 2) b'
-  laid_two {b₁} {b'} {s} {u} n q d e f g =
-      let second : b' ≡ written b₁ (record_size * (r + 1)) (plan_record_bytes (slot_record u)) = g ∙ ap (λ (at : ℕ). written b₁ at (plan_record_bytes (slot_record u))) (omega arith) in
-      let next : r + 1 + 1 ≡ r + 2 = omega arith in
-      rw (cut_two (l.len * l.weight) k a x (omega arith) q, ← next) (wrote_more (wrote_one d f) (wrote_one e second))
+      → Grows slot_record (s ∷ []) p q → Grows slot_record (u ∷ []) q r → LaidShare p r
+  laid_two n f d e g h = rw (cut_two (l.len * l.weight) k a x (omega arith) f, ← d, ← e) (grows_more g h)
 
 -- ---- the shares of a class
 
@@ -87,29 +85,38 @@ module _ (l : Lane) (x : ℕ → ℕ) where
   lane_doses n = map_gather (piece_slot l) n _
 
   -- what the loop over the doses keeps
-  pub record Kept (b₀ : List ℕ) (r : ℕ) (b : List ℕ) (at a k : ℕ) : Type 0 where
-    pub wrote : Wrote slot_record (gather k of_dose) b₀ r b at
+  pub record Kept (p q : Plan) (a k : ℕ) : Type 0 where
+    pub grows : Grows slot_record (gather k of_dose) p q
     pub sum_is : a ≡ sum k x
 
-  pub kept_none : (b : List ℕ) (r : ℕ) → Kept b r b r 0 0
+  pub kept_none : {p : Plan} → Kept p p 0 0
   unfolding sum
-  kept_none b r = record { wrote = gather_none of_dose b r; sum_is = refl }
+  kept_none = record { grows = gather_none of_dose; sum_is = refl }
 
-  pub kept_more : {b₀ b b' : List ℕ} {r at at' a k s : ℕ} → Kept b₀ r b at a k → s ≡ x k
-      → Wrote slot_record (map (piece_slot l) (cut (l.len * l.weight) k a s)) b at b' at' → Kept b₀ r b' at' (a + s) (k + 1)
+  pub kept_more : {p q r : Plan} {a k s : ℕ} → Kept p q a k → s ≡ x k → Grows slot_record (map (piece_slot l) (cut (l.len * l.weight) k a s)) q r
+      → Kept p r (a + s) (k + 1)
   unfolding sum
   kept_more {k = k} h e f = record {
-    wrote = gather_more of_dose k h.wrote (rw (h.sum_is, e) at f);
+    grows = gather_more of_dose k h.grows (rw (h.sum_is, e) at f);
     sum_is = rw add-one (omega (arith, h.sum_is, e));
   }
 
-  module _ {n r size : ℕ} (h : LaneRoom l x n r size) {b₀ b : List ℕ} {at a k : ℕ} (g : Kept b₀ r b at a k) where
-    pub room_at : {size' s : ℕ} → k < n → size' ≡ size → s ≡ x k → ShareRoom l k a s at size'
-    room_at q e f = rw (e, f, g.sum_is) (record {
+  module _ {n : ℕ} {p q : Plan} {a k : ℕ} (h : LaneRoom l x n p.records (length p.bytes.now)) (g : Kept p q a k) where
+    pub room_at : {s : ℕ} → k < n → s ≡ x k → ShareRoom l k a s q.records (length q.bytes.now)
+    room_at f e = rw (e, g.sum_is) (record {
       ready = h.ready;
-      most = h.most k q;
-      end = omega (arith, h.end, sum_before n x k q);
-      room = omega (arith, h.room, g.wrote.next, ap length (lane_doses n), gather_fits of_dose n k q, length-map (cut (l.len * l.weight) k (sum k x) (x k)) (piece_slot l));
+      most = h.most k f;
+      end = omega (arith, h.end, sum_before n x k f);
+      room =
+          omega (
+            arith,
+            h.room,
+            g.grows.wrote.next,
+            wrote_length g.grows.wrote,
+            ap length (lane_doses n),
+            gather_fits of_dose n k f,
+            length-map (cut (l.len * l.weight) k (sum k x) (x k)) (piece_slot l),
+          );
     })
 
     -- no sum of shares is too large for the code
@@ -125,5 +132,5 @@ module _ (l : Lane) (x : ℕ → ℕ) where
         )
 
     -- the loop has come to the end
-    pub laid_all : k ≡ n → Wrote slot_record (lane_slots l x n) b₀ r b at
-    laid_all e = rw (lane_doses, ← e) g.wrote
+    pub laid_all : k ≡ n → Grows slot_record (lane_slots l x n) p q
+    laid_all e = rw (lane_doses, ← e) g.grows

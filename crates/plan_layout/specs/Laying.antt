@@ -1,7 +1,7 @@
 -- What the code that lays slots promises of the buffer, and what it is given.
 use Rattle.std.specs.Prelude.{◌≡◌, List, map, ℕ, ◌+◌, ◌*◌, ◌≤◌, ◌<◌, get_or, length}
 use Rattle.model.specs.Records.{record_size}
-use Rattle.model.specs.Limits.{cells, most_weight, most_doses, most_fans, most_intervals, week}
+use Rattle.model.specs.Limits.{most_weight, most_doses, most_fans, most_intervals, week}
 use Rattle.records.specs.Written.{written}
 use Rattle.model.specs.Sets.{sum}
 use Rattle.model.specs.Plans.{PlanRecord, records_bytes}
@@ -42,7 +42,6 @@ pub record Filled (t : Tables) (shares : List ℕ) (reserved : List (List ℕ)) 
   pub doses : t.doses ≤ most_doses
   pub classes : t.classes ≤ most_doses
   pub intervals : t.intervals ≤ most_intervals
-  pub size : length shares ≡ cells
   pub week : (j : ℕ) → j < t.intervals → get_or t.instants (j + 1) 0 ≤ week
   pub wide : (j : ℕ) → j < t.intervals → get_or t.instants j 0 < get_or t.instants (j + 1) 0
   pub heavy : (i : ℕ) → i < t.classes → 0 < get_or t.weight i 0
