@@ -21,20 +21,18 @@ use Rattle.plan.proofs.Holding.{held_bytes, held_slots}
 -- ---- an order that was read
 
 -- the plan of arrays that hold the order's classes and shares is written
-pub written : (o : Order) (t : Tables) (x : List ℕ) (m : List (List ℕ)) (h : TablesHold o t x m) {before after : List ℕ} {slots : ℕ} {r : answers.Planned}
-    → slots ≡ length (table_slots (table_from t x m)) → after ≡ overwritten before (bytes_from t x m) → r ≡ planned t.classes slots
-    → WritesOrder o before r after
-written o t x m h {before} {after} {slots} e g q =
+pub written : (o : Order) (t : Tables) (x : List ℕ) (m : List (List ℕ)) (h : TablesHold o t x m) {before after : List ℕ} {slots : ℕ}
+    → slots ≡ length (table_slots (table_from t x m)) → after ≡ overwritten before (bytes_from t x m) → WritesOrder o before (planned t.classes slots) after
+written o t x m h {before} {after} {slots} e g =
     let count : slots ≡ length (slots_of o t.classes (members_from t) (share_at t x)) = e ∙ ap length (held_slots o t x m h) in
     let bytes : after ≡ overwritten before (plan_bytes o t.classes (members_from t) (share_at t x)) = g ∙ ap (overwritten before) (held_bytes o t x m h) in
-    rw (q, count, bytes) (writes t.classes (members_from t) h.classes (share_at t x) h.valid)
+    rw (count, bytes) (writes t.classes (members_from t) h.classes (share_at t x) h.valid)
 
 -- 9
-pub too_fast_lem : (o : Order) (before : List ℕ) {f : TooFast} {r : answers.Planned} → AgainstTop o f → f.above ≡ true → r ≡ unplanned (nine f)
-    → PlansOrder o before r before
-too_fast_lem o before h y e =
+pub too_fast_lem : (o : Order) (before : List ℕ) {f : TooFast} → AgainstTop o f → f.above ≡ true → PlansOrder o before (unplanned (nine f)) before
+too_fast_lem o before h y =
     let a = h.above y in
-    rw (e, a.3) (above a.0 a.1 a.2)
+    rw a.3 (above a.0 a.1 a.2)
 
 -- or done
 pub slow_enough : {o : Order} {before after : List ℕ} {f : TooFast} {r : answers.Planned} → AgainstTop o f → f.above ≡ false → WritesOrder o before r after
@@ -45,13 +43,13 @@ slow_enough h n w = plans (h.slow n) w
 
 module _ (order before : List ℕ) where
   -- 1
-  pub one : {r : answers.Planned} → length before < plan_room → r ≡ unplanned (refusal 1 0) → Plans order before r before
-  one l e = rw e (no_room l)
+  pub one : length before < plan_room → Plans order before (unplanned (refusal 1 0)) before
+  one = no_room
 
   -- 2 to 8, and 15
-  pub by_reading : {number place : ℕ} {r : answers.Planned} → plan_room ≤ length before → read_order last_open_bay order ≡ refused number place
-      → r ≡ unplanned (refusal number place) → Plans order before r before
-  by_reading {number} {place} l q e = rw e (refuses l (refusal number place) (unread number place q))
+  pub by_reading : {number place : ℕ} → plan_room ≤ length before → read_order last_open_bay order ≡ refused number place
+      → Plans order before (unplanned (refusal number place)) before
+  by_reading {number} {place} l q = refuses l (refusal number place) (unread number place q)
 
   -- 9 or 0
   pub nine_or_done : {o : Order} {r : answers.Planned} {after : List ℕ} → plan_room ≤ length before → read_order last_open_bay order ≡ read o → PlansOrder o before r after

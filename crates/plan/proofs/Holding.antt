@@ -81,7 +81,6 @@ module _ (o : Order) (t : Tables) (x : List ℕ) (m : List (List ℕ)) (h : Tabl
       doses = omega (arith, h.doses, fit.few);
       classes = omega (arith, few, fit.few);
       intervals = omega (arith, h.intervals, few_intervals o fit);
-      size = h.size;
       week = λ j q. omega (arith, h.instants (j + 1) (omega (arith, h.intervals)), instants_week o fit (j + 1));
       wide = λ j q. omega (arith, h.instants j (omega (arith, h.intervals)), h.instants (j + 1) (omega (arith, h.intervals)), instants_rise o j (omega (arith, h.intervals)));
       heavy = λ i l. omega (arith, h.weight i l, weighs (setting_of o) fit.some_grams (C i) (h.classes.next i l).some);

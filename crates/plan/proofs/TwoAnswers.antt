@@ -17,8 +17,6 @@ use Rattle.model.proofs.Orders.{read_fits}
 use Rattle.model.proofs.Sequence.{count_unique}
 use Rattle.model.proofs.Planner.{plan_length}
 use Rattle.model.proofs.Answers.{one_order, plan_settled, refused_not_accepted, refuses_one}
-use Rattle.plan.specs.declared.Planned as code
-use Rattle.plan.specs.Answered.{as_planned}
 
 -- "success changes only the plan's own records", and a refusal counts none: past the records counted each byte is as it was
 pub rest_unchanged : {order before after : List ℕ} {r : Planned} → Plans order before r after
@@ -28,21 +26,6 @@ rest_unchanged (refuses l a h) = refl
 rest_unchanged {order} {before} (plans l o a p C c x v) =
     let size = plan_length o (read_fits last_open_bay order o a.reads) p C c x v in
     drop_at (plan_bytes o p C x) (drop (length (plan_bytes o p C x)) before) _ size ∙ ap (λ (n : ℕ). drop n before) size
-
--- a struct that says the same is the same
-abbrev held_planned : Planned → code.Planned
-held_planned p = record {
-  number = p.answer.number;
-  place = p.answer.place;
-  set = p.answer.set;
-  weight = p.answer.weight;
-  time = p.answer.time;
-  classes = p.classes;
-  slots = p.slots;
-}
-
-pub planned_one : (r s : code.Planned) → as_planned r ≡ as_planned s → r ≡ s
-planned_one r s e = ap held_planned e
 
 -- the shares that an answer was planned with
 unfoldable pub shares_of : {order before after : List ℕ} {r : Planned} → Plans order before r after → ℕ → ℕ → ℕ → ℕ

@@ -1,21 +1,16 @@
 -- What comes back of planning, as the structs hold it.
-use Rattle.std.specs.Prelude.{List, ℕ, T, length}
+use Rattle.std.specs.Prelude.{List, ℕ, T, length, Result, Ok, Err}
 use Rattle.model.specs.Sets.{Doses}
 use Rattle.model.specs.Orders.{Order}
 use Rattle.model.specs.Classes.{Classes}
 use Rattle.model.specs.Intervals.{fans_present, setting_of}
 use Rattle.model.specs.Layout.{slots_of}
-use Rattle.model.specs.Answers.{Answer, FirstClass, ValidShares, above_top, done, overwritten, plan_bytes, too_fast}
+use Rattle.model.specs.Answers.{Answer, FirstClass, ValidShares, above_top, done, overwritten, plan_bytes, refusal, too_fast}
 use Rattle.model.specs.Answers as answers
+use Rattle.classes.specs.Answer.{nine}
 use Rattle.plan.specs.declared.Planned.{Planned}
-
--- the answer that the struct holds
-abbrev pub as_planned : Planned → answers.Planned
-as_planned r = record {
-  answer = record { number = r.number; place = r.place; set = r.set; weight = r.weight; time = r.time };
-  classes = r.classes;
-  slots = r.slots;
-}
+use Rattle.plan.specs.declared.refusal.Refusal.{Refusal}
+use Rattle.plan.specs.declared.refusal.Refusal.TheVariants as is
 
 -- nothing is written with a refusal
 abbrev pub unplanned : Answer → answers.Planned
@@ -24,6 +19,17 @@ unplanned a = record { answer = a; classes = 0; slots = 0 }
 -- done, with "the classes and slots written"
 abbrev pub planned : ℕ → ℕ → answers.Planned
 planned classes slots = record { answer = done; classes = classes; slots = slots }
+
+-- the answer that a refusal is: 1; 2 to 8 or 15 with its place; 9 with "the first class as a number with bit i for dose i, its W and P"
+abbrev pub answer_of : Refusal → Answer
+answer_of is.NoRoom = refusal 1 0
+answer_of (is.Order r) = refusal r.number r.place
+answer_of (is.TooFast f) = nine f
+
+-- what comes back
+abbrev pub as_planned : Result Planned Refusal → answers.Planned
+as_planned (Ok p) = planned p.classes p.slots
+as_planned (Err r) = unplanned (answer_of r)
 
 -- the plan of an order's classes and of valid shares is written in front
 pub data WritesOrder (o : Order) (before : List ℕ) : answers.Planned → List ℕ → Type 0 where

@@ -10,6 +10,7 @@ use Rattle.model.specs.Plans.{Class, plan_of, records_bytes}
 use Rattle.model.specs.Layout.{table_slots}
 use Rattle.model.specs.Answers.{ValidShares}
 use Rattle.interval.specs.declared.Instants.{Instants}
+use Rattle.classes.specs.declared.Tally.{Tally}
 use Rattle.measure.specs.Arrays.{sets_of}
 use Rattle.plan_layout.specs.declared.Tables.{Tables}
 use Rattle.plan_layout.specs.Held.{fans_at, share_at, table_from}
@@ -39,15 +40,14 @@ pub record TablesHold (o : Order) (t : Tables) (shares : List ℕ) (rows : List 
   pub weight : (i : ℕ) → i < t.classes → get_or t.weight i 0 ≡ W (setting_of o) (members_from t i)
   pub time : (i : ℕ) → i < t.classes → get_or t.time i 0 ≡ class_p (setting_of o) (fans_present o) (members_from t) i
   pub fans : (i j : ℕ) → i < t.classes → j < (setting_of o).intervals → fans_at rows i j ≡ reserved (setting_of o) (fans_present o) (members_from t) i j
-  pub size : length shares ≡ cells
   pub valid : ValidShares o t.classes (members_from t) (share_at t shares)
 
--- tables of so many doses and classes, with the instants, classes, W and P of these arrays
-pub record TablesOf (doses : ℕ) (s : Instants) (classes : ℕ) (class_of weight time : List ℕ) (t : Tables) : Type 0 where
+-- tables of so many doses, with these instants and the classes, W and P of the tally
+pub record TablesOf (doses : ℕ) (s : Instants) (y : Tally) (t : Tables) : Type 0 where
   pub doses_is : t.doses ≡ doses
-  pub classes_is : t.classes ≡ classes
+  pub classes_is : t.classes ≡ y.class
   pub intervals_is : t.intervals ≡ s.count - 1
   pub instants_is : t.instants ≡ s.at
-  pub class_of_is : t.class_of ≡ class_of
-  pub weight_is : (i : ℕ) → i < most_doses → get_or t.weight i 0 ≡ get_or weight i 0 % 4294967296
-  pub time_is : (i : ℕ) → i < most_doses → get_or t.time i 0 ≡ get_or time i 0 % 4294967296
+  pub class_of_is : t.class_of ≡ y.numbers
+  pub weight_is : (i : ℕ) → i < most_doses → get_or t.weight i 0 ≡ get_or y.weight i 0 % 4294967296
+  pub time_is : (i : ℕ) → i < most_doses → get_or t.time i 0 ≡ get_or y.time i 0 % 4294967296

@@ -5,11 +5,11 @@ use Rattle.plan.proofs.Answering.{by_reading, nine_or_done, one}
 use Rattle.plan.proofs.plan.Goals as goal
 
 pub returns-then-plan-lt-PLAN_ROOM : goal.returns-then-plan-lt-PLAN_ROOM
-returns-then-plan-lt-PLAN_ROOM c = one _ _ c.if-plan-lt-PLAN_ROOM.true c.refused.ensures
+returns-then-plan-lt-PLAN_ROOM c = one _ _ c.if-plan-lt-PLAN_ROOM.true
 
 pub returns-then-reading-ne0 : goal.returns-then-reading-ne0
 returns-then-reading-ne0 c =
-    by_reading _ _ c.if-plan-lt-PLAN_ROOM.false (was_refused _ _ c.read_order-reading.ensures c.if-reading-ne0.true) c.refused-then-reading-ne0.ensures
+    by_reading _ _ c.if-plan-lt-PLAN_ROOM.false (was_refused _ _ c.read_order-reading.ensures c.if-reading-ne0.true)
 
 pub plan_order-requires : goal.plan_order-requires
 plan_order-requires c =

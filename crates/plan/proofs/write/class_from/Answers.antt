@@ -10,7 +10,6 @@ use Rattle.plan.proofs.write.class_from.Goals as goal
 pub returns : goal.returns
 unfolding class_from
 returns c =
-    let A = c.args in
-    let marked = c.set_of-set in
-    let members = weight_alike A.t.doses (λ k. 1) (set_of marked.result) (members_from A.t A.i) (λ k l. marked.ensures k (omega arith)) in
+    let t = c.args.t.now in
+    let members = weight_alike t.doses (λ k. 1) (set_of c.set_of.result) (members_from t c.args.i) (λ k l. c.set_of.ensures k (omega arith)) in
     rw (c.size_of.ensures.0 ∙ members)

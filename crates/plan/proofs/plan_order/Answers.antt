@@ -1,0 +1,9 @@
+-- `plan_order` meets its contract: a first class above the top rate is 9 with no byte written; else the plan is written (Answering).
+use Rattle.plan.proofs.Answering.{slow_enough, too_fast_lem}
+use Rattle.plan.proofs.plan_order.Goals as goal
+
+pub returns-then-fast : goal.returns-then-fast
+returns-then-fast c = too_fast_lem _ _ c.too_fast-fast.ensures c.if-fast.true
+
+pub returns : goal.returns
+returns c = slow_enough c.too_fast-fast.ensures c.if-fast.false c.write_order.ensures
