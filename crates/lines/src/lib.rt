@@ -165,7 +165,8 @@ pub fn print_plan(plan: &[u8], classes: usize, slots: usize, out: &mut [u8]) -> 
     put_total(out, at, classes, slots)
 }
 
-// The text of a refusal: "`refused` number place, and for 9 also the set, W, P". Gives back its length.
+// The text of a refusal: "`refused` number place, and for 9 also the set, W, P". Gives back its length. The numbers come one by one: each crate that
+// refuses has a type of its own for why.
 pub fn print_refusal(
     number: u64,
     place: u64,

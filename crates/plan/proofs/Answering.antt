@@ -1,9 +1,9 @@
 -- Laws of what comes back: refusal 9 or a plan of an order that was read, and so what planning bytes answers. Assumes nothing.
-use mathlib.Core.Bool.{true, false}
 use mathlib.Core.Path.{◌≡◌, ap, ◌∙◌}
 use mathlib.Core.List.{List}
 use Prim.Native.Nat.{ℕ, ◌≤◌, ◌<◌}
 use lib.ListN.{length}
+use Rattle.std.specs.Prelude.{Option, Some, None}
 use Rattle.model.specs.Limits.{last_open_bay, plan_room}
 use Rattle.model.specs.Orders.{Order, read_order}
 use Rattle.model.specs.Records.{read, refused}
@@ -29,13 +29,13 @@ written o t x m h {before} {after} {slots} e g =
     rw (count, bytes) (writes t.classes (members_from t) h.classes (share_at t x) h.valid)
 
 -- 9
-pub too_fast_lem : (o : Order) (before : List ℕ) {f : TooFast} → AgainstTop o f → f.above ≡ true → PlansOrder o before (unplanned (nine f)) before
-too_fast_lem o before h y =
-    let a = h.above y in
+pub too_fast_lem : (o : Order) (before : List ℕ) {f : TooFast} {r : Option TooFast} → AgainstTop o r → r ≡ Some f → PlansOrder o before (unplanned (nine f)) before
+too_fast_lem o before {f} h e =
+    let a = h.above f e in
     rw a.3 (above a.0 a.1 a.2)
 
 -- or done
-pub slow_enough : {o : Order} {before after : List ℕ} {f : TooFast} {r : answers.Planned} → AgainstTop o f → f.above ≡ false → WritesOrder o before r after
+pub slow_enough : {o : Order} {before after : List ℕ} {f : Option TooFast} {r : answers.Planned} → AgainstTop o f → f ≡ None → WritesOrder o before r after
     → PlansOrder o before r after
 slow_enough h n w = plans (h.slow n) w
 

@@ -3,4 +3,4 @@ pub mod Holding
 pub mod Answering
 pub mod TwoAnswers
 pub mod Tabling
-pub mod Made
+pub mod Exits

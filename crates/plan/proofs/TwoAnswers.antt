@@ -6,17 +6,24 @@ use Prim.Native.Nat.{ℕ, ◌+◌, ◌*◌, ◌<◌}
 use native.Mathlib.Omega.{arith}
 use lib.ListN.{drop, length}
 use lib.Seq.{drop_at}
+use Rattle.std.specs.Prelude.{Result, Ok, Err, eqb}
 use Rattle.model.specs.Limits.{last_open_bay}
-use Rattle.model.specs.Records.{record_size}
+use Rattle.model.specs.Records.{pick, record_size}
 use Rattle.model.specs.Sets.{Doses}
 use Rattle.model.specs.Orders.{Order}
 use Rattle.model.specs.Classes.{Classes}
 use Rattle.model.specs.Intervals.{fans_present, setting_of}
-use Rattle.model.specs.Answers.{Accepts, Planned, Plans, done, no_room, overwritten, plan_bytes, plans, refuses}
+use Rattle.model.specs.Answers.{Accepts, Answer, Planned, Plans, done, no_room, overwritten, plan_bytes, plans, refuses}
 use Rattle.model.proofs.Orders.{read_fits}
 use Rattle.model.proofs.Sequence.{count_unique}
 use Rattle.model.proofs.Planner.{plan_length}
 use Rattle.model.proofs.Answers.{one_order, plan_settled, refused_not_accepted, refuses_one}
+use Rattle.order.specs.declared.refusal.Refusal.TheVariants as kind
+use Rattle.order.specs.Held as held
+use Rattle.plan.specs.declared.Planned as code
+use Rattle.plan.specs.declared.refusal.Refusal.{Refusal}
+use Rattle.plan.specs.declared.refusal.Refusal.TheVariants as is
+use Rattle.plan.specs.Answered.{as_planned}
 
 -- "success changes only the plan's own records", and a refusal counts none: past the records counted each byte is as it was
 pub rest_unchanged : {order before after : List ℕ} {r : Planned} → Plans order before r after
@@ -26,6 +33,31 @@ rest_unchanged (refuses l a h) = refl
 rest_unchanged {order} {before} (plans l o a p C c x v) =
     let size = plan_length o (read_fits last_open_bay order o a.reads) p C c x v in
     drop_at (plan_bytes o p C x) (drop (length (plan_bytes o p C x)) before) _ size ∙ ap (λ (n : ℕ). drop n before) size
+
+-- the answer that says this
+abbrev held_refusal : Answer → Refusal
+held_refusal a =
+    pick (eqb a.number 1) is.NoRoom (pick (eqb a.number 9) (is.TooFast (record { set = a.set; weight = a.weight; time = a.time })) (is.Order (held.held_refusal a.number a.place)))
+
+abbrev held_planned : Planned → Result code.Planned Refusal
+held_planned p = pick (eqb p.answer.number 0) (Ok (record { classes = p.classes; slots = p.slots })) (Err (held_refusal p.answer))
+
+planned_back : (r : Result code.Planned Refusal) → held_planned (as_planned r) ≡ r
+planned_back (Ok p) = refl
+planned_back (Err is.NoRoom) = refl
+planned_back (Err (is.TooFast f)) = refl
+planned_back (Err (is.Order kind.Length)) = refl
+planned_back (Err (is.Order (kind.Kind k))) = refl
+planned_back (Err (is.Order (kind.NotBlank k))) = refl
+planned_back (Err (is.Order (kind.OutOfRange k))) = refl
+planned_back (Err (is.Order kind.NotOneFans)) = refl
+planned_back (Err (is.Order kind.TooManyDoses)) = refl
+planned_back (Err (is.Order (kind.Clash k))) = refl
+planned_back (Err (is.Order (kind.TrialBay k))) = refl
+
+-- answers that say the same are the same
+pub planned_one : (r s : Result code.Planned Refusal) → as_planned r ≡ as_planned s → r ≡ s
+planned_one r s e = sym (planned_back r) ∙ ap held_planned e ∙ planned_back s
 
 -- the shares that an answer was planned with
 unfoldable pub shares_of : {order before after : List ℕ} {r : Planned} → Plans order before r after → ℕ → ℕ → ℕ → ℕ

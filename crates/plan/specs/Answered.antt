@@ -7,6 +7,7 @@ use Rattle.model.specs.Intervals.{fans_present, setting_of}
 use Rattle.model.specs.Layout.{slots_of}
 use Rattle.model.specs.Answers.{Answer, FirstClass, ValidShares, above_top, done, overwritten, plan_bytes, refusal, too_fast}
 use Rattle.model.specs.Answers as answers
+use Rattle.order.specs.Held.{number_of, place_of}
 use Rattle.classes.specs.Answer.{nine}
 use Rattle.plan.specs.declared.Planned.{Planned}
 use Rattle.plan.specs.declared.refusal.Refusal.{Refusal}
@@ -23,7 +24,7 @@ planned classes slots = record { answer = done; classes = classes; slots = slots
 -- the answer that a refusal is: 1; 2 to 8 or 15 with its place; 9 with "the first class as a number with bit i for dose i, its W and P"
 abbrev pub answer_of : Refusal → Answer
 answer_of is.NoRoom = refusal 1 0
-answer_of (is.Order r) = refusal r.number r.place
+answer_of (is.Order r) = refusal (number_of r) (place_of r)
 answer_of (is.TooFast f) = nine f
 
 -- what comes back

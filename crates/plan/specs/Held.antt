@@ -1,6 +1,6 @@
 -- The classes, shares and plan that the arrays of `plan_layout` hold.
-use Rattle.std.specs.Prelude.{◌≡◌, List, [], ◌∷◌, ℕ, ◌+◌, ◌-◌, ◌%◌, ◌<◌, ◌≤◌, get_or, length}
-use Rattle.model.specs.Limits.{cells, most_doses}
+use Rattle.std.specs.Prelude.{◌≡◌, List, [], ◌∷◌, ℕ, ◌+◌, ◌-◌, ◌%◌, ◌<◌, ◌≤◌, get_or}
+use Rattle.model.specs.Limits.{most_doses}
 use Rattle.model.specs.Sets.{Doses, weight}
 use Rattle.model.specs.Lists.{gather}
 use Rattle.model.specs.Orders.{Order}

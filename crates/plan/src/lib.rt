@@ -39,7 +39,7 @@ fn write_order(
     requires { Fit (as_order o.now) × ClassesOf (as_order o.now) tally.now × SharesOf (as_order o.now) tally.now reserved.now shares.now × (plan_room ≤ length plan.old) }
     ensures { WritesOrder (as_order o.now) plan.old (planned result.classes result.slots) plan.new }
 {
-    let instants = interval::instants_of(*o);
+    let instants = interval::instants_of(o);
     let tables = tables_of(o.count, &instants, tally);
     let slots = write_plan(
         plan,
@@ -62,9 +62,8 @@ fn plan_order(o: &Order, plan: &mut [u8]) -> Result<Planned, Refusal>
 {
     let mut shares = [0u64; CELLS];
     let mut reserved = [[0u8; MOST_INTERVALS]; MOST_DOSES];
-    let tally = classes::classes_of(*o, &mut shares, &mut reserved);
-    let fast = classes::too_fast(*o, tally);
-    if fast.above {
+    let tally = classes::classes_of(o, &mut shares, &mut reserved);
+    if let Some(fast) = classes::too_fast(o, &tally) {
         return Err(Refusal::TooFast(fast));
     }
     Ok(write_order(o, &tally, &shares, &reserved, plan))
@@ -78,12 +77,6 @@ pub fn plan(order: &[u8], plan: &mut [u8]) -> Result<Planned, Refusal>
     if plan.len() < PLAN_ROOM {
         return Err(Refusal::NoRoom);
     }
-    let reading = order::read_order(LAST_OPEN_BAY, order);
-    if reading.number != 0 {
-        return Err(Refusal::Order(order::Refusal {
-            number: reading.number,
-            place: reading.place,
-        }));
-    }
-    plan_order(&reading.order, plan)
+    let o = order::read_order(LAST_OPEN_BAY, order).map_err(Refusal::Order)?;
+    plan_order(&o, plan)
 }

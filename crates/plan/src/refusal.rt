@@ -5,7 +5,7 @@ ghost use Rattle.plan.specs.Answered.{answer_of};
 use classes::TooFast;
 
 // "1 plan buffer under 47,392 bytes"; what reading the order refuses, 2 to 8 and 15; "9 first class: W × top seconds above P × top grams".
-#[derive(Clone, Copy)]
+#[derive(Clone, Copy, PartialEq, Eq)]
 pub enum Refusal {
     NoRoom,
     Order(order::Refusal),
@@ -19,7 +19,7 @@ impl Refusal {
     {
         match self {
             Refusal::NoRoom => 1,
-            Refusal::Order(r) => r.number,
+            Refusal::Order(r) => r.number(),
             Refusal::TooFast(_) => 9,
         }
     }
@@ -29,7 +29,7 @@ impl Refusal {
         ensures { result ≡ (answer_of self).place }
     {
         match self {
-            Refusal::Order(r) => r.place,
+            Refusal::Order(r) => r.place(),
             Refusal::NoRoom | Refusal::TooFast(_) => 0,
         }
     }

@@ -22,7 +22,7 @@ pub fn tables_of(doses: usize, s: &Instants, tally: &Tally) -> Tables
     Tables {
         doses,
         classes: tally.class,
-        intervals: interval::interval_count(*s),
+        intervals: interval::interval_count(s),
         instants: s.at,
         weight: narrow(&tally.weight),
         time: narrow(&tally.time),

@@ -20,7 +20,7 @@ fn class_from(t: &Tables, i: usize) -> Class
 {
     Class {
         number: i as u32 + 1,
-        doses: size_of(t.doses, set_of(&t.class_of, i)) as u32,
+        doses: size_of(t.doses, &set_of(&t.class_of, i)) as u32,
         weight: t.weight[i],
         time: t.time[i],
     }

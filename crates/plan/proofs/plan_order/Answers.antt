@@ -2,8 +2,8 @@
 use Rattle.plan.proofs.Answering.{slow_enough, too_fast_lem}
 use Rattle.plan.proofs.plan_order.Goals as goal
 
-pub returns-then-fast : goal.returns-then-fast
-returns-then-fast c = too_fast_lem _ _ c.too_fast-fast.ensures c.if-fast.true
+pub returns-in-Some : goal.returns-in-Some
+returns-in-Some c = too_fast_lem _ _ c.too_fast.ensures c.in-Some.is
 
 pub returns : goal.returns
-returns c = slow_enough c.too_fast-fast.ensures c.if-fast.false c.write_order.ensures
+returns c = slow_enough c.too_fast.ensures c.in_default.is c.write_order.ensures

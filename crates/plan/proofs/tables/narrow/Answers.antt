@@ -1,7 +1,6 @@
 -- `narrow` meets its contract: every place has the remainder of its number by 4,294,967,296.
-use mathlib.Core.Path.{◌≡◌}
 use borrow.Author.Rules.{rules}
-use Rattle.plan.proofs.Made.{made, one_same}
+use Rattle.measure.proofs.Made.{made, one_same}
 use Rattle.plan.proofs.tables.narrow.Goals as goal
 
 pub returns : goal.returns
