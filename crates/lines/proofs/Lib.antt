@@ -1,4 +1,5 @@
 pub mod Puts
+pub mod Adding
 pub mod Digits
 pub mod Records
 pub mod Said

@@ -10,8 +10,8 @@ use lib.ListN.{length, get_or, length-append}
 use Rattle.model.specs.Records.{pick, class_kind, record_at}
 use Rattle.model.specs.Plans.{Class, Slot, class_of, slot_of}
 use Rattle.records.specs.Plan.{kind_at, class_in, slot_in}
-use Rattle.lines.specs.Text.{Put, line_text, numbers_text, class_text, slot_text, total_text, refused_text, record_text, records_text, plan_text}
-use Rattle.lines.proofs.Puts.{lines_end, lines_length, numbers_length}
+use Rattle.lines.specs.Text.{line_text, numbers_text, class_text, slot_text, total_text, refused_text, record_text, records_text, plan_text}
+use Rattle.lines.proofs.Puts.{lines_length, numbers_length}
 
 -- ---- lengths
 
@@ -40,38 +40,32 @@ record_length r = go (eqb (get_or r 0 0) class_kind)
     go true = class_length (class_of r)
     go false = slot_length (slot_of r)
 
-module _ {b b' : List ℕ} {at e : ℕ} where
-  -- ---- a record, by its kind
+-- ---- a record, by its kind
 
-  pub put_of_class : (plan : List ℕ) (i : ℕ) {c : Class} → kind_at plan i ≡ class_kind → c ≡ class_in plan i → Put (class_text c) b at b' e → Put (record_text (record_at plan i)) b at b' e
-  unfolding record_text class_in
-  put_of_class plan i k q h = rw (eq-eqb (kind_at plan i) class_kind k) (rw q at h)
+pub class_line : (plan : List ℕ) (i : ℕ) {c : Class} → kind_at plan i ≡ class_kind → c ≡ class_in plan i → record_text (record_at plan i) ≡ class_text c
+unfolding record_text class_in
+class_line plan i k q = rw (eq-eqb (kind_at plan i) class_kind k, q)
 
-  pub put_of_slot : (plan : List ℕ) (i : ℕ) {s : Slot} → (kind_at plan i ≡ class_kind → ⊥) → s ≡ slot_in plan i → Put (slot_text s) b at b' e → Put (record_text (record_at plan i)) b at b' e
-  unfolding record_text slot_in
-  put_of_slot plan i k q h = rw (ne_eqb (kind_at plan i) class_kind k) (rw q at h)
+pub slot_line : (plan : List ℕ) (i : ℕ) {s : Slot} → (kind_at plan i ≡ class_kind → ⊥) → s ≡ slot_in plan i → record_text (record_at plan i) ≡ slot_text s
+unfolding record_text slot_in
+slot_line plan i k q = rw (ne_eqb (kind_at plan i) class_kind k, q)
 
-  -- ---- a refusal
+-- ---- a refusal
 
-  pub put_nine : (number place set weight time : ℕ) → number ≡ 9
-      → Put (line_text (114 ∷ 101 ∷ 102 ∷ 117 ∷ 115 ∷ 101 ∷ 100 ∷ []) (number ∷ place ∷ set ∷ weight ∷ time ∷ [])) b at b' e
-      → Put (refused_text number place set weight time) b at b' e
+module _ (number place set weight time : ℕ) where
+  pub nine_line : number ≡ 9 → refused_text number place set weight time ≡ line_text (114 ∷ 101 ∷ 102 ∷ 117 ∷ 115 ∷ 101 ∷ 100 ∷ []) (number ∷ place ∷ set ∷ weight ∷ time ∷ [])
   unfolding refused_text
-  put_nine number place set weight time k h = rw (eq-eqb number 9 k) h
+  nine_line k = rw (eq-eqb number 9 k)
 
-  pub put_other : (number place set weight time : ℕ) → (number ≡ 9 → ⊥)
-      → Put (line_text (114 ∷ 101 ∷ 102 ∷ 117 ∷ 115 ∷ 101 ∷ 100 ∷ []) (number ∷ place ∷ [])) b at b' e
-      → Put (refused_text number place set weight time) b at b' e
+  pub other_line : (number ≡ 9 → ⊥) → refused_text number place set weight time ≡ line_text (114 ∷ 101 ∷ 102 ∷ 117 ∷ 115 ∷ 101 ∷ 100 ∷ []) (number ∷ place ∷ [])
   unfolding refused_text
-  put_other number place set weight time k h = rw (ne_eqb number 9 k) h
-
--- ---- records in a row
-
--- where the line behind the first i records begins
-pub records_end : (plan : List ℕ) {b b' : List ℕ} {at : ℕ} (i : ℕ) → Put (records_text plan i) b 0 b' at → at ≤ 160 * i
-records_end plan i h = omega (arith, lines_end (λ k. record_text (record_at plan k)) 160 (λ k. record_length (record_at plan k)) i h)
+  other_line k = rw (ne_eqb number 9 k)
 
 -- ---- whole texts
+
+-- the lines of n records are at most 160 bytes each
+pub records_length : (plan : List ℕ) (n : ℕ) → length (records_text plan n) ≤ 160 * n
+records_length plan n = lines_length (λ k. record_text (record_at plan k)) 160 (λ k. record_length (record_at plan k)) n
 
 -- a text of n records and the total is at most 160 × (n + 1) bytes
 pub plan_text_length : (plan : List ℕ) (classes slots : ℕ) → length (plan_text plan classes slots) ≤ 160 * (classes + slots + 1)
@@ -80,7 +74,7 @@ plan_text_length plan classes slots =
     omega (
       arith,
       length-append (records_text plan (classes + slots)) (total_text classes slots),
-      lines_length (λ k. record_text (record_at plan k)) 160 (λ k. record_length (record_at plan k)) (classes + slots),
+      records_length plan (classes + slots),
       line_length (116 ∷ 111 ∷ 116 ∷ 97 ∷ 108 ∷ []) (classes ∷ slots ∷ []),
     )
 

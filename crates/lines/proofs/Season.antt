@@ -9,18 +9,18 @@ use lib.Dec.{eqb}
 use lib.ListN.{get_or, length, length-append}
 use Rattle.model.specs.Limits.{order_numbers}
 use Rattle.model.specs.Records.{pick}
-use Rattle.lines.specs.Text.{Put, bare_text, met_text, refusals_text, season_text, totals_text}
-use Rattle.lines.proofs.Puts.{bare_length, lines_length, put_none}
+use Rattle.lines.specs.Text.{bare_text, met_text, refusals_text, season_text, totals_text}
+use Rattle.lines.proofs.Puts.{bare_length, lines_length}
 
 -- a number that was not met has no line
-pub met_none : (number count : ℕ) (b : List ℕ) (at : ℕ) → count ≡ 0 → Put (met_text number count) b at b at
+pub met_none : (number count : ℕ) → count ≡ 0 → met_text number count ≡ []
 unfolding met_text
-met_none number count b at e = rw (eq-eqb count 0 e) (put_none b at)
+met_none number count e = rw (eq-eqb count 0 e)
 
 -- one that was met has one
-pub met_line : (number count : ℕ) {b b' : List ℕ} {at e : ℕ} → (count ≡ 0 → ⊥) → Put (bare_text number (count ∷ [])) b at b' e → Put (met_text number count) b at b' e
+pub met_line : (number count : ℕ) → (count ≡ 0 → ⊥) → met_text number count ≡ bare_text number (count ∷ [])
 unfolding met_text
-met_line number count ne p = rw (ne_eqb count 0 ne) p
+met_line number count ne = rw (ne_eqb count 0 ne)
 
 -- of at most 42 bytes
 pub met_length : (number count : ℕ) → length (met_text number count) ≤ 42

@@ -1,11 +1,14 @@
--- `print_refusal` meets its contract: 9 has five numbers in its line, any other refusal two (Records).
-use Rattle.lines.proofs.Records.{put_nine, put_other}
+-- `print_refusal` meets its contract: the line is the text, from the buffer's first byte on (Adding).
+use mathlib.Core.Path.{sym, ◌∙◌}
+use borrow.Author.Rules.{rules}
+use Rattle.lines.proofs.Adding.{fits_new, put_new}
 use Rattle.lines.proofs.print_refusal.Goals as goal
 
-pub returns-then-number-eq9 : goal.returns-then-number-eq9
-returns-then-number-eq9 c =
-    put_nine _ _ _ _ _ c.if-number-eq9.true c.put_line.ensures
+pub put_refused-requires : goal.put_refused-requires
+put_refused-requires c = let new = c.new-text.ensures in fits_new c.new-text.result _ new.held new.none c.requires
 
 pub returns : goal.returns
 returns c =
-    put_other _ _ _ _ _ c.if-number-eq9.false c.put_line-2.ensures
+    let new = c.new-text.ensures in
+    let added = c.put_refused.ensures in
+    put_new new.held new.none added (search (rules, sym (added.same_reference ∙ new.same_reference)))
