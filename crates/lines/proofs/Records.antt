@@ -42,13 +42,13 @@ record_length r = go (eqb (get_or r 0 0) class_kind)
 
 -- ---- a record, by its kind
 
-pub class_line : (plan : List ℕ) (i : ℕ) {c : Class} → kind_at plan i ≡ class_kind → c ≡ class_in plan i → record_text (record_at plan i) ≡ class_text c
+pub class_line : (plan : List ℕ) (i : ℕ) {c : Class} → eqb (kind_at plan i) class_kind ≡ true → c ≡ class_in plan i → record_text (record_at plan i) ≡ class_text c
 unfolding record_text class_in
-class_line plan i k q = rw (eq-eqb (kind_at plan i) class_kind k, q)
+class_line plan i k q = rw (k, q)
 
-pub slot_line : (plan : List ℕ) (i : ℕ) {s : Slot} → (kind_at plan i ≡ class_kind → ⊥) → s ≡ slot_in plan i → record_text (record_at plan i) ≡ slot_text s
+pub slot_line : (plan : List ℕ) (i : ℕ) {s : Slot} → eqb (kind_at plan i) class_kind ≡ false → s ≡ slot_in plan i → record_text (record_at plan i) ≡ slot_text s
 unfolding record_text slot_in
-slot_line plan i k q = rw (ne_eqb (kind_at plan i) class_kind k, q)
+slot_line plan i k q = rw (k, q)
 
 -- ---- a refusal
 

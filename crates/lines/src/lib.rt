@@ -10,7 +10,7 @@ ghost use Rattle.records.specs.Held.{as_class, as_slot};
 ghost use Rattle.lines.specs.Text.{class_text, slot_text, total_text, refused_text, record_text, records_text, plan_text, met_text, refusals_text, totals_text, season_text, Put};
 ghost use Rattle.lines.specs.Adding.{Adds, Fits};
 
-use records::{CLASS_KIND, Class, Slot, class_at, kind_at, slot_at};
+use records::{Class, Kind, Slot, class_at, kind_at, slot_at};
 use steps::limits::ORDER_NUMBERS;
 use text::Text;
 
@@ -58,10 +58,9 @@ impl Text<'_> {
         requires room { Fits 160 self.old }
         ensures { Adds (record_text (record_at plan.now i)) self.old self.new }
     {
-        if kind_at(plan, i) == CLASS_KIND {
-            self.put_class(class_at(plan, i));
-        } else {
-            self.put_slot(slot_at(plan, i));
+        match kind_at(plan, i) {
+            Kind::Class => self.put_class(class_at(plan, i)),
+            _ => self.put_slot(slot_at(plan, i)),
         }
     }
 
