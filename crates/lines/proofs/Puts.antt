@@ -2,9 +2,8 @@
 use mathlib.Core.Path.{◌≡◌, refl, sym, ap, ◌∙◌}
 use mathlib.Core.Bool.{Bool, true, false}
 use mathlib.Core.List.{List, [], ◌∷◌, ◌++◌, append-nil, append_assoc}
-use Prim.Native.Nat.{ℕ, zero, suc, ◌+◌, ◌*◌, ◌-◌, ◌/◌, ◌%◌, ◌≤◌, ◌<◌}
+use Prim.Native.Nat.{ℕ, zero, suc, ◌+◌, ◌*◌, ◌/◌, ◌%◌, ◌≤◌}
 use native.Mathlib.Omega.{arith}
-use borrow.Author.Tests.{le-ltb, lt-ltb}
 use lib.Dec.{ltb}
 use lib.ListN.{length, set, take, drop, length-append}
 use lib.Seq.{sets-eq, take-append_seam}
@@ -45,22 +44,6 @@ put_more {p} {q} {b} {at = at} h g = record {
 }
 
 -- ---- digits
-
-pub decimal_none : (places v : ℕ) → places ≡ 0 → decimal places v ≡ []
-unfolding decimal
-decimal_none places v e = rw e
-
-pub decimal_one : (places v : ℕ) → (places ≡ 0 → ⊥) → v < 10 → decimal places v ≡ (digit_zero + v) ∷ []
-unfolding decimal
-decimal_one zero v n h = absurd (n refl)
-decimal_one (suc places) v n h = rw (lt-ltb v 10 h)
-
-pub decimal_more : (places v : ℕ) → (places ≡ 0 → ⊥) → 10 ≤ v → decimal places v ≡ decimal (places - 1) (v / 10) ++ ((digit_zero + v % 10) ∷ [])
-unfolding decimal
-decimal_more zero v n h = absurd (n refl)
-decimal_more (suc places) v n h =
-    let e : suc places - 1 ≡ places = omega arith in
-    rw (le-ltb v 10 h, e)
 
 -- no more digits than places
 pub decimal_length : (places v : ℕ) → length (decimal places v) ≤ places

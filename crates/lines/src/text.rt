@@ -29,20 +29,12 @@ impl<'a> Text<'a> {
         self.end += 1;
     }
 
-    // Writes a number in decimal, in at most so many places.
-    fn put_decimal(&mut self, v: u64, places: usize)
-        requires { Fits places self.old }
-        ensures { Adds (decimal places v) self.old self.new }
+    // Writes a number in decimal.
+    fn put_decimal(&mut self, v: u64)
+        requires { Fits 20 self.old }
+        ensures { Adds (decimal 20 v) self.old self.new }
     {
-        if places == 0 {
-            return;
-        }
-        if v < 10 {
-            self.put_byte(b'0' + v as u8);
-            return;
-        }
-        self.put_decimal(v / 10, places - 1);
-        self.put_byte(b'0' + (v % 10) as u8);
+        self.put_word(itoa::Buffer::new().format(v).as_bytes());
     }
 
     // Writes a space and a number.
@@ -51,7 +43,7 @@ impl<'a> Text<'a> {
         ensures { Adds (number_text v) self.old self.new }
     {
         self.put_byte(b' ');
-        self.put_decimal(v, 20);
+        self.put_decimal(v);
     }
 
     // Writes the bytes of a word.
@@ -89,7 +81,7 @@ impl<'a> Text<'a> {
         requires { Fits (20 + 21 * length others.now + 1) self.old }
         ensures { Adds (bare_text first others.now) self.old self.new }
     {
-        self.put_decimal(first, 20);
+        self.put_decimal(first);
         self.put_rest(others);
     }
 }
