@@ -2,10 +2,11 @@
 use mathlib.Core.Bool.{Bool, true, false, ◌&&◌, ◌||◌}
 use mathlib.Core.List.{List, [], ◌∷◌, ◌++◌, append_assoc, append-nil}
 use mathlib.Core.Path.{◌≡◌, refl, ap, ◌∙◌, sym}
+use Rattle.std.proofs.Common.{Result}
 use Prim.Native.Nat.{ℕ, suc, ◌+◌, ◌*◌, ◌-◌, ◌/◌, ◌%◌, ◌<◌, ◌≤◌}
 use native.Mathlib.Nat.{sub-zero}
 use native.Mathlib.Omega.{arith}
-use borrow.Author.Tests.{eq-eqb, le-leb, lt-leb, ne_eqb}
+use borrow.Author.Tests.{clash, leb-true, ne_eqb}
 use lib.Dec.{eqb, leb}
 use lib.ListN.{length, take, drop}
 use Rattle.model.specs.Limits.{stream_room}
@@ -15,10 +16,10 @@ use Rattle.model.specs.Season.{AddsUp, Comes, Outcome, before_next, begins, not_
 use Rattle.model.specs.Answers.{done, refusal}
 use Rattle.model.proofs.Lists.{Along-append}
 use Rattle.season.specs.Adding.{with_outcome}
-use Rattle.season.specs.Held.{OutcomeFits, SeasonFits, SeasonIn, as_added_up, as_outcome, as_season, OpensWithFans}
-use Rattle.season.specs.declared.outcome.Outcome.{Outcome as Held}
+use Rattle.season.specs.Held.{OutcomeFits, SeasonFits, SeasonIn, as_outcome, as_season, OpensWithFans}
+use Rattle.season.specs.declared.outcome.Accepted.{Accepted}
+use Rattle.season.specs.declared.outcome.Refused.{Refused}
 use Rattle.season.specs.declared.figures.Season.{Season}
-use Rattle.season.specs.declared.AddedUp.{AddedUp}
 use Rattle.model.proofs.Streams.{next_begins, next_most, order_first}
 use Rattle.season.proofs.OneMore.{fits_more, fits_none, fits_up, season_more}
 
@@ -49,7 +50,7 @@ adding_none {stream} {n} {s} e h z = record {
 }
 
 -- the order from record i up to the next F is one more
-pub adding_order : {stream : List ℕ} {n i next : ℕ} {s r : Season} (x : Held) → Adding stream n i s → i < n → next ≡ i + 1 + before_next stream (i + 1) (n - (i + 1))
+pub adding_order : {stream : List ℕ} {n i next : ℕ} {s r : Season} (x : Result Accepted Refused) → Adding stream n i s → i < n → next ≡ i + 1 + before_next stream (i + 1) (n - (i + 1))
     → Comes (take (record_size * next - record_size * i) (drop (record_size * i) stream)) (as_outcome x) → OutcomeFits x
     → as_season r ≡ with_outcome (as_season s) (as_outcome x) → Adding stream n next r
 adding_order {stream} {n} {i} {next} {s} {r} x a l e comes h f =
@@ -85,44 +86,24 @@ adding_all {stream} {n} {i} {s} a l =
 
 -- ---- 16, or the figures
 
+both : (x y : Bool) → (x && y) ≡ true → (x ≡ true) × (y ≡ true)
+both true y e = (refl, e)
+both false y e = absurd (clash e)
+
 module _ (stream : List ℕ) where
   -- where a test fails
-  sixteen : {b : AddedUp} → stream_fits stream ≡ false → as_added_up b ≡ not_added_up (refusal 16 0) → AddsUp stream (as_added_up b)
+  pub not_added : stream_fits stream ≡ false → AddsUp stream (not_added_up (refusal 16 0))
   unfolding read_stream
-  sixteen f e = rw e (AddsUp.refuses 16 0 (rw f))
+  not_added f = AddsUp.refuses 16 0 (rw f)
 
-  abbrev short : Bool
-  short = leb (length stream) stream_room
-
-  abbrev records : Bool
-  records = eqb (length stream % record_size) 0
-
-  pub too_long : {b : AddedUp} → stream_room < length stream → as_added_up b ≡ not_added_up (refusal 16 0) → AddsUp stream (as_added_up b)
-  too_long l = sixteen (rw (lt-leb (length stream) stream_room l))
-
-  pub ragged : {b : AddedUp} → (length stream % record_size ≡ 0 → ⊥) → as_added_up b ≡ not_added_up (refusal 16 0) → AddsUp stream (as_added_up b)
-  ragged ne = sixteen (second short records _ (ne_eqb (length stream % record_size) 0 ne))
-    where
-      second : (x y z : Bool) → y ≡ false → (x && y && z) ≡ false
-      second true y z e = rw e
-      second false y z e = refl
-
-  pub not_opened : {b : AddedUp} → (eqb (length stream) 0 || begins stream 0) ≡ false → as_added_up b ≡ not_added_up (refusal 16 0) → AddsUp stream (as_added_up b)
-  not_opened e = sixteen (third short records _ e)
-    where
-      third : (x y z : Bool) → z ≡ false → (x && y && z) ≡ false
-      third true true z e = e
-      third true false z e = refl
-      third false y z e = refl
-
-  -- where there is a record, the first is an F
-  pub opened : (eqb (length stream) 0 || begins stream 0) ≡ true → OpensWithFans stream
-  opened e l = rw (ne_eqb (length stream) 0 (λ z. omega arith)) at e
+  -- a stream that fits is no longer, and where it has a record, the first is an F
+  pub fitting : stream_fits stream ≡ true → (length stream ≤ stream_room) × OpensWithFans stream
+  fitting f =
+      let opens = both (leb (length stream) stream_room && eqb (length stream % record_size) 0) (eqb (length stream) 0 || begins stream 0) f in
+      let long = both (leb (length stream) stream_room) (eqb (length stream % record_size) 0) opens.0 in
+      (leb-true (length stream) stream_room long.0, λ l. rw (ne_eqb (length stream) 0 (λ z. omega arith)) at opens.1)
 
   -- and the figures of all orders
-  pub added : {s : Season} → length stream ≤ stream_room → length stream % record_size ≡ 0 → (eqb (length stream) 0 || begins stream 0) ≡ true → SeasonIn stream s
-      → AddsUp stream (record { answer = done; season = as_season s })
+  pub added : {s : Season} → stream_fits stream ≡ true → SeasonIn stream s → AddsUp stream (record { answer = done; season = as_season s })
   unfolding read_stream
-  added l e o h =
-      rw h.figures (AddsUp.adds_up (orders_from stream 0 (length stream / record_size))
-      (rw (le-leb (length stream) stream_room l, eq-eqb (length stream % record_size) 0 e, o)) h.outcomes h.each)
+  added f h = rw h.figures (AddsUp.adds_up (orders_from stream 0 (length stream / record_size)) (rw f) h.outcomes h.each)

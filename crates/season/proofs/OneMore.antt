@@ -5,6 +5,7 @@ use Prim.Native.Nat.{ℕ, ◌+◌, ◌*◌, ◌<◌, ◌≤◌}
 use native.Mathlib.Nat.{mul-le-mul_right}
 use native.Mathlib.Omega.{arith}
 use borrow.Author.Tests.{eq-eqb, le-ltb, ne_eqb}
+use Rattle.std.proofs.Common.{Err, Ok, Result}
 use lib.ListN.{length, get_or, set, length-set}
 use lib.Seq.{get_or-set_same, get_or-set_other}
 use Rattle.model.specs.Limits.{order_numbers}
@@ -15,9 +16,9 @@ use Rattle.model.proofs.Lists.{gather_at, length_singles, total_append}
 use Rattle.steps.proofs.Arrays.{all_same, places_one}
 use Rattle.steps.proofs.Tests.{alike}
 use Rattle.season.specs.Adding.{with_outcome}
-use Rattle.season.specs.Held.{OutcomeFits, SeasonFits, as_outcome, as_season, most_of_order}
-use Rattle.season.specs.declared.outcome.Outcome.{Outcome as Held}
-use Rattle.season.specs.declared.outcome.Outcome.TheVariants as is
+use Rattle.season.specs.Held.{OutcomeFits, SeasonFits, as_outcome, as_rate, as_season, most_of_order, number_of}
+use Rattle.season.specs.declared.outcome.Accepted.{Accepted}
+use Rattle.season.specs.declared.outcome.Refused.{Refused}
 use Rattle.season.specs.declared.figures.Season.{Season}
 
 -- ---- one figure
@@ -81,20 +82,20 @@ refused_counts xs number few =
 -- ---- all figures
 
 -- those of one order more
-pub season_more : (xs : List Outcome) (x : Held) → OutcomeFits x → with_outcome (season_of xs) (as_outcome x) ≡ season_of (xs ++ as_outcome x ∷ [])
+pub season_more : (xs : List Outcome) (x : Result Accepted Refused) → OutcomeFits x → with_outcome (season_of xs) (as_outcome x) ≡ season_of (xs ++ as_outcome x ∷ [])
 unfolding with_outcome season_of as_outcome OutcomeFits
-season_more xs (is.Accepted grams seconds first) h =
-    let x = accepted_with grams seconds (record { weight = first.weight; time = first.time }) in
+season_more xs (Ok a) h =
+    let x = accepted_with a.grams a.seconds (as_rate a.first) in
     let accepted = sym (one_more if_accepted xs x) in
-    let refused = accepted_counts xs grams seconds (record { weight = first.weight; time = first.time }) in
+    let refused = accepted_counts xs a.grams a.seconds (as_rate a.first) in
     let all_grams = sym (one_more grams_of xs x) in
     let all_seconds = sym (one_more seconds_of xs x) in
     let greatest = sym (greatest_more no_rate xs x) in
     λ i. record { accepted = accepted i; refused = refused i; grams = all_grams i; seconds = all_seconds i; greatest = greatest i }
-season_more xs (is.Refused number) h =
-    let x = refused_by number in
+season_more xs (Err r) h =
+    let x = refused_by (number_of r) in
     let accepted : total if_accepted xs ≡ total if_accepted (xs ++ x ∷ []) = omega (arith, one_more if_accepted xs x) in
-    let refused = refused_counts xs number h in
+    let refused = refused_counts xs (number_of r) h in
     let all_grams : total grams_of xs ≡ total grams_of (xs ++ x ∷ []) = omega (arith, one_more grams_of xs x) in
     let all_seconds : total seconds_of xs ≡ total seconds_of (xs ++ x ∷ []) = omega (arith, one_more seconds_of xs x) in
     let greatest = sym (greatest_more no_rate xs x ∙ greater_none (greatest_from no_rate xs)) in
@@ -121,20 +122,20 @@ count_more k counts number l h n =
     (λ e. omega (arith, get_or-set_other counts number n (get_or counts number 0 + 1) 0 e, h n))
 
 -- with one order more
-pub fits_more : (k : ℕ) (s r : Season) (x : Held) → SeasonFits k s → OutcomeFits x → as_season r ≡ with_outcome (as_season s) (as_outcome x) → SeasonFits (k + 1) r
+pub fits_more : (k : ℕ) (s r : Season) (x : Result Accepted Refused) → SeasonFits k s → OutcomeFits x → as_season r ≡ with_outcome (as_season s) (as_outcome x) → SeasonFits (k + 1) r
 unfolding with_outcome as_outcome OutcomeFits
-fits_more k s r (is.Accepted grams seconds first) fit h e = record {
+fits_more k s r (Ok a) fit h e = record {
   long = ap (λ (s : season.Season). length s.refused) e ∙ fit.long;
   few_accepted = omega (arith, ap (λ (s : season.Season). s.accepted) e, fit.few_accepted);
   few_refused = λ n. omega (arith, ap (λ (s : season.Season). get_or s.refused n 0) e, fit.few_refused n);
   grams_most = omega (arith, ap (λ (s : season.Season). s.grams) e, fit.grams_most, h.0);
   seconds_most = omega (arith, ap (λ (s : season.Season). s.seconds) e, fit.seconds_most, h.1);
 }
-fits_more k s r (is.Refused number) fit h e = record {
-  long = ap (λ (s : season.Season). length s.refused) e ∙ length-set s.refused number _ ∙ fit.long;
+fits_more k s r (Err x) fit h e = record {
+  long = ap (λ (s : season.Season). length s.refused) e ∙ length-set s.refused (number_of x) _ ∙ fit.long;
   few_accepted = omega (arith, ap (λ (s : season.Season). s.accepted) e, fit.few_accepted);
   few_refused = λ n.
-      omega (arith, ap (λ (s : season.Season). get_or s.refused n 0) e, count_more k s.refused number (omega (arith, fit.long, h)) fit.few_refused n);
+      omega (arith, ap (λ (s : season.Season). get_or s.refused n 0) e, count_more k s.refused (number_of x) (omega (arith, fit.long, h)) fit.few_refused n);
   grams_most = omega (arith, ap (λ (s : season.Season). s.grams) e, fit.grams_most);
   seconds_most = omega (arith, ap (λ (s : season.Season). s.seconds) e, fit.seconds_most);
 }

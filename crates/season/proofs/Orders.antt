@@ -1,10 +1,13 @@
 -- What one order comes to, by its classes: their grams, their P and the first of them. Assumes nothing.
 use mathlib.Core.Bool.{true, false}
 use mathlib.Core.List.{List}
-use mathlib.Core.Path.{◌≡◌, ◌∙◌}
-use Prim.Native.Nat.{ℕ, ◌<◌, ◌≤◌}
+use mathlib.Core.Path.{◌≡◌, refl, ap, ◌∙◌, sym}
+use Prim.Native.Nat.{ℕ, zero, suc, ◌+◌, ◌<◌, ◌≤◌}
 use native.Mathlib.Omega.{arith}
-use lib.ListN.{get_or}
+use lib.ListN.{get_or, length, take}
+use Rattle.std.specs.List as list
+use Rattle.std.proofs.lemmas.List.{get_or_past, take_all}
+use Rattle.std.proofs.lemmas.List.Sums.{sum_by_more}
 use Rattle.model.specs.Limits.{most_bay, most_doses, most_weight}
 use Rattle.model.specs.Sets.{sum}
 use Rattle.model.specs.Records.{read, refused}
@@ -13,7 +16,8 @@ use Rattle.model.specs.Intervals.{fans_present, setting_of}
 use Rattle.model.specs.Answers.{refusal, unread}
 use Rattle.model.specs.Answers as answers
 use Rattle.model.specs.Season.{Comes, FirstRate, Rate, accepted_with, first_class, no_first_class, refused_by}
-use Rattle.model.proofs.Sums.{sum_congr}
+use Rattle.model.proofs.Lists.{sum_const}
+use Rattle.model.proofs.Sums.{sum_congr, sum_le}
 use Rattle.model.proofs.Sequence.{few_classes}
 use Rattle.model.proofs.Orders.{Fit}
 use Rattle.model.proofs.Answers.{first_next, first_time, no_doses, unread_number}
@@ -24,7 +28,22 @@ use Rattle.classes.specs.Answer.{AgainstTop, ClassesOf, SharesOf}
 use Rattle.classes.specs.Phase.{classes_in, shares_in}
 use Rattle.classes.specs.declared.Tally.{Tally}
 use Rattle.classes.specs.declared.TooFast.{TooFast}
-use Rattle.season.specs.Held.{OrderComes, above, below}
+use Rattle.steps.proofs.Tests.{below_or}
+use Rattle.season.specs.Held.{OrderComes, above, below, most_of_order}
+
+-- the first n numbers of a list, together
+pub first_sum : (n : ℕ) (xs : List ℕ) → list.sum (take n xs) ≡ sum n (λ i. get_or xs i 0)
+unfolding sum
+first_sum zero xs = refl
+first_sum (suc n) xs =
+    let next : n + 1 ≡ suc n = omega arith in
+    below_or n (length xs)
+    (λ l. rw next at (sum_by_more (λ x. x) xs n 0 l) ∙ ap (λ (s : ℕ). s + get_or xs n 0) (first_sum n xs))
+    (λ l. let all = take_all n xs l in let more = take_all (suc n) xs (omega arith) in omega (arith, first_sum n xs, get_or_past xs n 0 l, ap list.sum (more ∙ sym all)))
+
+-- of few small numbers, they are no more than those of an order
+few_together : (n : ℕ) (xs : List ℕ) → n ≤ most_doses → ((i : ℕ) → i < n → get_or xs i 0 ≤ most_weight) → list.sum (take n xs) ≤ most_of_order
+few_together n xs few small = omega (arith, first_sum n xs, sum_le n {g = λ i. most_weight} small, sum_const n most_weight)
 
 module _ (o : Order) (fit : Fit o) (t : Tally) (c : ClassesOf o t) where
   -- there are few classes, and their W and P are small
@@ -36,6 +55,10 @@ module _ (o : Order) (fit : Fit o) (t : Tally) (c : ClassesOf o t) where
 
   pub times_fit : (i : ℕ) → i < t.class → get_or t.time i 0 ≤ most_weight
   times_fit i l = omega (arith, c.time i l, time_most o fit t.class (classes_in t) i)
+
+  -- and together no more than those of an order
+  pub sums_fit : (list.sum (take t.class t.weight) ≤ most_of_order) × (list.sum (take t.class t.time) ≤ most_of_order)
+  sums_fit = (few_together t.class t.weight classes_few weights_fit, few_together t.class t.time classes_few times_fit)
 
   -- the first class, or none
   pub first_none : t.class ≡ 0 → FirstRate o (record { weight = 0; time = 1 })
@@ -52,13 +75,13 @@ module _ (o : Order) (fit : Fit o) (t : Tally) (c : ClassesOf o t) where
 
   -- or the figures: its own plan, which nobody writes, stands and takes the P of its classes
   pub comes_below : {top : TooFast} {table : List (List ℕ)} {shares : List ℕ} → SharesOf o t table shares → AgainstTop o top → top.above ≡ false
-      → (grams seconds : ℕ) → grams ≡ sum t.class (λ i. get_or t.weight i 0) → seconds ≡ sum t.class (λ i. get_or t.time i 0)
+      → (grams seconds : ℕ) → grams ≡ list.sum (take t.class t.weight) → seconds ≡ list.sum (take t.class t.time)
       → (first : Rate) → FirstRate o first → OrderComes o (accepted_with grams seconds first)
   comes_below {shares = shares} s h e grams seconds eg es first f =
       let C = classes_in t in
       let stands = plan_stands o fit t.class C c.classes (shares_in t shares) s.valid in
-      let all_grams = eg ∙ sum_congr t.class (λ i l. c.weight i l) ∙ classes_grams o t.class C c.classes in
-      let all_seconds = es ∙ sum_congr t.class (λ i l. c.time i l) in
+      let all_grams = eg ∙ first_sum t.class t.weight ∙ sum_congr t.class (λ i l. c.weight i l) ∙ classes_grams o t.class C c.classes in
+      let all_seconds = es ∙ first_sum t.class t.time ∙ sum_congr t.class (λ i l. c.time i l) in
       rw (all_grams, all_seconds) (below (h.slow e) _ stands _ (stands_takes o fit _ stands t.class C c.classes) first f)
 
 -- ---- the bytes of an order

@@ -1,35 +1,40 @@
 -- How the structs of `season` hold what document 02 speaks of, and how large their numbers are.
-use Rattle.std.specs.Prelude.{◌≡◌, true, List, ℕ, ◌*◌, ◌/◌, ◌<◌, ◌≤◌, T, length, get_or}
+use Rattle.std.specs.Prelude.{◌≡◌, true, Err, List, Ok, Result, ℕ, ◌*◌, ◌/◌, ◌<◌, ◌≤◌, T, length, get_or}
 use Rattle.model.specs.Limits.{most_doses, most_weight, order_numbers}
 use Rattle.model.specs.Sets.{Doses}
 use Rattle.model.specs.Records.{record_size}
 use Rattle.model.specs.Lists.{Along, total}
 use Rattle.model.specs.Orders.{Order}
-use Rattle.model.specs.Answers.{FirstClass, above_top, refusal}
+use Rattle.model.specs.Answers.{FirstClass, above_top, done, refusal}
 use Rattle.model.specs.Stands.{Stands}
-use Rattle.model.specs.Season.{Comes, FirstRate, Takes, begins, orders_from, season_of}
+use Rattle.model.specs.Season.{Comes, FirstRate, Takes, begins, not_added_up, orders_from, season_of}
 use Rattle.model.specs.Season as season
 use Rattle.season.specs.declared.outcome.Rate.{Rate}
-use Rattle.season.specs.declared.outcome.Outcome.{Outcome}
-use Rattle.season.specs.declared.outcome.Outcome.TheVariants as is
+use Rattle.season.specs.declared.outcome.Accepted.{Accepted}
+use Rattle.season.specs.declared.outcome.Refused.{Refused}
+use Rattle.season.specs.declared.outcome.Refused.TheVariants as is
 use Rattle.season.specs.declared.figures.Season.{Season}
-use Rattle.season.specs.declared.AddedUp.{AddedUp}
+use Rattle.season.specs.declared.NoStream.{NoStream}
 
 abbrev pub as_rate : Rate → season.Rate
 as_rate r = record { weight = r.weight; time = r.time }
 
-unfoldable pub as_outcome : Outcome → season.Outcome
-as_outcome (is.Accepted grams seconds first) = season.accepted_with grams seconds (as_rate first)
-as_outcome (is.Refused number) = season.refused_by number
+-- the number of a refusal
+abbrev pub number_of : Refused → ℕ
+number_of (is.Order r) = r.number
+number_of is.TooFast = 9
+
+unfoldable pub as_outcome : Result Accepted Refused → season.Outcome
+as_outcome (Ok a) = season.accepted_with a.grams a.seconds (as_rate a.first)
+as_outcome (Err r) = season.refused_by (number_of r)
 
 abbrev pub as_season : Season → season.Season
 as_season s = record { accepted = s.accepted; refused = s.refused; grams = s.grams; seconds = s.seconds; greatest = as_rate s.greatest }
 
-abbrev pub as_added_up : AddedUp → season.AddedUp
-as_added_up r = record {
-  answer = refusal r.number r.place;
-  season = record { accepted = r.accepted; refused = r.refused; grams = r.grams; seconds = r.seconds; greatest = record { weight = r.weight; time = r.time } };
-}
+-- 16, or the figures: "Fields not meant are 0"
+abbrev pub as_added_up : Result Season NoStream → season.AddedUp
+as_added_up (Ok s) = record { answer = done; season = as_season s }
+as_added_up (Err e) = not_added_up (refusal 16 0)
 
 -- ---- one order
 
@@ -38,9 +43,9 @@ abbrev pub most_of_order : ℕ
 most_of_order = most_doses * most_weight
 
 -- the numbers of an outcome are those of an order
-unfoldable pub OutcomeFits : Outcome → Type 0
-OutcomeFits (is.Accepted grams seconds first) = (grams ≤ most_of_order) × (seconds ≤ most_of_order)
-OutcomeFits (is.Refused number) = number < order_numbers
+unfoldable pub OutcomeFits : Result Accepted Refused → Type 0
+OutcomeFits (Ok a) = (a.grams ≤ most_of_order) × (a.seconds ≤ most_of_order)
+OutcomeFits (Err r) = number_of r < order_numbers
 
 -- an order that was read comes to this: 9, or its figures
 pub data OrderComes (o : Order) : season.Outcome → Type 0 where

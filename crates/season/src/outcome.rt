@@ -1,15 +1,15 @@
 // What one order of the stream comes to.
-ghost use Rattle.std.specs.Prelude.{◌≡◌, ℕ, ◌<◌, ◌≤◌, get_or};
-ghost use Rattle.model.specs.Limits.{most_doses, most_weight};
-ghost use Rattle.model.specs.Sets.{sum};
+ghost use Rattle.std.specs.Prelude.{◌≡◌, ◌≤◌, sum};
 ghost use Rattle.model.specs.Season.{Comes, FirstRate};
+ghost use Rattle.model.specs.Season as season;
 ghost use Rattle.model.proofs.Orders.{Fit};
 ghost use Rattle.order.specs.Held.{as_order};
 ghost use Rattle.classes.specs.Answer.{ClassesOf};
-ghost use Rattle.season.specs.Held.{as_rate, as_outcome, OutcomeFits, OrderComes, most_of_order};
+ghost use Rattle.season.specs.Held.{as_rate, as_outcome, number_of, OutcomeFits, OrderComes, most_of_order};
 
 use classes::{Tally, classes_of, too_fast};
 use order::{Order, read_order};
+use steps::excess;
 use steps::limits::{CELLS, MOST_BAY, MOST_DOSES, MOST_INTERVALS};
 
 // W and P of a class.
@@ -19,38 +19,62 @@ pub struct Rate {
     pub time: u32,
 }
 
-// An order that is accepted, with its grams, its fan-seconds and its first class; or refused, with the number.
-#[derive(Clone, Copy)]
-pub enum Outcome {
-    Accepted {
-        grams: u64,
-        seconds: u64,
-        first: Rate,
-    },
-    Refused(u32),
-}
+impl Rate {
+    // "0 and 1 if there is none"
+    pub(crate) const NONE: Rate = Rate { weight: 0, time: 1 };
 
-// What the first n numbers come to.
-fn together(numbers: [u64; MOST_DOSES], n: usize) -> u64
-    requires { (n ≤ most_doses) × ((i : ℕ) → i < n → get_or numbers i 0 ≤ most_weight) }
-    ensures { (result ≡ sum n (λ i. get_or numbers i 0)) × (result ≤ most_of_order) }
-{
-    let mut sum: u64 = 0;
-    let mut i = 0;
-    while i < n {
-        sum += numbers[i];
-        i += 1;
+    // "the greatest first-class W and P, the earliest on a tie": the later one only if it is above, by exact products.
+    pub(crate) fn greater(self, later: Rate) -> Rate
+        ensures { as_rate result ≡ season.greater (as_rate self) (as_rate later) }
+    {
+        if excess(later.weight, later.time, self.weight, self.time) == 0 {
+            return self;
+        }
+        later
     }
-    sum
 }
 
-// "0 and 1 if there is none"
+// An order that is accepted: its grams, its fan-seconds and its first class.
+#[derive(Clone, Copy)]
+pub struct Accepted {
+    pub grams: u64,
+    pub seconds: u64,
+    pub first: Rate,
+}
+
+// An order that is refused: by its reading, or since its first class is above the top rate.
+#[derive(Clone, Copy)]
+pub enum Refused {
+    Order(order::Refusal),
+    TooFast,
+}
+
+impl Refused {
+    pub(crate) fn number(self) -> u32
+        ensures { result ≡ number_of self }
+    {
+        match self {
+            Refused::Order(refusal) => refusal.number,
+            Refused::TooFast => 9,
+        }
+    }
+}
+
+// What the W or the P of classes come to.
+fn together(numbers: &[u64]) -> u64
+    requires { sum numbers.now ≤ most_of_order }
+    ensures { result ≡ sum numbers.now }
+{
+    numbers.iter().sum()
+}
+
+// The rate of the first class.
 fn first_of(t: Tally, o: Order) -> Rate
     requires { Fit (as_order o) × ClassesOf (as_order o) t }
     ensures { FirstRate (as_order o) (as_rate result) }
 {
     if t.class == 0 {
-        return Rate { weight: 0, time: 1 };
+        return Rate::NONE;
     }
     Rate {
         weight: t.weight[0] as u32,
@@ -59,38 +83,33 @@ fn first_of(t: Tally, o: Order) -> Rate
 }
 
 // An order that was read: 9, or its figures by its classes. No plan is written: its slots would take the P of its classes.
-fn classed(o: Order) -> Outcome
+fn classed(o: Order) -> Result<Accepted, Refused>
     requires { Fit (as_order o) }
     ensures { OrderComes (as_order o) (as_outcome result) × OutcomeFits result }
 {
     let mut shares = [0u64; CELLS];
     let mut table = [[0u8; MOST_INTERVALS]; MOST_DOSES];
     let t = classes_of(o, &mut shares, &mut table);
-    let top = too_fast(o, t);
-    if top.above {
-        return Outcome::Refused(9);
+    if too_fast(o, t).above {
+        return Err(Refused::TooFast);
     }
-    let n = t.class;
-    let weight = t.weight;
-    let grams = together(weight, n);
-    let time = t.time;
-    let seconds = together(time, n);
-    let first = first_of(t, o);
-    Outcome::Accepted {
-        grams,
-        seconds,
-        first,
-    }
+    Ok(Accepted {
+        grams: together(&t.weight[..t.class]),
+        seconds: together(&t.time[..t.class]),
+        first: first_of(t, o),
+    })
 }
 
 // The bytes of an order: "Trial bays are read as in judging, without 15."
-pub fn order_comes(order: &[u8]) -> Outcome
+pub fn order_comes(order: &[u8]) -> Result<Accepted, Refused>
     ensures { Comes order.now (as_outcome result) × OutcomeFits result }
 {
     let r = read_order(MOST_BAY, order);
     if r.number != 0 {
-        return Outcome::Refused(r.number);
+        return Err(Refused::Order(order::Refusal {
+            number: r.number,
+            place: r.place,
+        }));
     }
-    let o = r.order;
-    classed(o)
+    classed(r.order)
 }

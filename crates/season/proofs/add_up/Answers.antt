@@ -1,24 +1,13 @@
--- `add_up` meets its contract: each of the three faults is 16, and else all orders are added up (Adding).
+-- `add_up` meets its contract: 16 of a stream that doesn't fit, and else all orders are added up (Adding).
 use mathlib.Core.Path.{◌∙◌, sym}
-use native.Mathlib.Omega.{arith}
-use borrow.Author.Tests.{not-false, not-true}
-use Rattle.season.proofs.Adding.{added, not_opened, opened, ragged, too_long}
-use borrow.Author.Rules.{rules}
+use Rattle.season.proofs.Adding.{added, fitting, not_added}
 use Rattle.season.proofs.add_up.Goals as goal
 
-pub returns-then-stream-gt-STREAM_ROOM : goal.returns-then-stream-gt-STREAM_ROOM
-returns-then-stream-gt-STREAM_ROOM c = too_long _ (omega arith) c.refused.ensures
+pub returns-then-not-stream_fits : goal.returns-then-not-stream_fits
+returns-then-not-stream_fits c = not_added _ (sym c.stream_fits.ensures ∙ c.if-not-stream_fits.true)
 
-pub returns-then-stream-ne0 : goal.returns-then-stream-ne0
-returns-then-stream-ne0 c = ragged _ c.if-stream-ne0.true c.refused-then-stream-ne0.ensures
-
-pub returns-then-not-opens : goal.returns-then-not-opens
-returns-then-not-opens c = not_opened _ (sym c.opens.ensures ∙ c.if-not-opens.true) c.refused-then-not-opens.ensures
-
-pub season_in-s-requires : goal.season_in-s-requires
-season_in-s-requires c =
-    (omega arith, opened c.args.stream.now (sym c.opens.ensures ∙ c.if-not-opens.false))
+pub season_in-requires : goal.season_in-requires
+season_in-requires c = fitting _ (sym c.stream_fits.ensures ∙ c.if-not-stream_fits.false)
 
 pub returns : goal.returns
-returns c =
-    added _ (omega arith) c.if-stream-ne0.false (sym c.opens.ensures ∙ c.if-not-opens.false) c.season_in-s.ensures
+returns c = added _ (sym c.stream_fits.ensures ∙ c.if-not-stream_fits.false) c.season_in.ensures

@@ -1,19 +1,11 @@
 -- `next_fans` meets its contract: no record so far is an F, so that the next one is where it is from here.
-use mathlib.Core.Path.{◌≡◌, refl, sym, ◌∙◌}
-use Prim.Native.Nat.{◌+◌, ◌-◌, ◌≤◌}
+use mathlib.Core.Path.{◌≡◌, sym, ◌∙◌}
+use Prim.Native.Nat.{◌+◌, ◌-◌}
 use native.Mathlib.Omega.{arith}
 use borrow.Author.Tests.{eq-eqb, ne_eqb}
-use Rattle.model.specs.Season.{before_next}
 use Rattle.model.proofs.Streams.{next_here, next_later, next_most}
 use Rattle.season.proofs.Begins.{begins_is}
-use borrow.Author.Rules.{rules}
 use Rattle.season.proofs.next_fans.Goals as goal
-
-pub loop-i-init : goal.loop-i-init
-loop-i-init c = (c.requires.1, refl)
-
-pub kind_at-requires : goal.kind_at-requires
-kind_at-requires c = omega (arith, c.requires.0)
 
 pub returns-then-kind_at-eq-FANS_KIND : goal.returns-then-kind_at-eq-FANS_KIND
 returns-then-kind_at-eq-FANS_KIND c =
@@ -33,7 +25,4 @@ loop-i-preserved c =
     (omega arith, rw fewer (sym (next_later stream L.i (A.n - L.i) other (omega arith)) ∙ L.invariant.1))
 
 pub returns : goal.returns
-returns c =
-    let L = c.loop-i in
-    let A = c.args in
-    omega (arith, next_most A.stream.now L.i (A.n - L.i), L.invariant.1)
+returns c = let L = c.loop-i in let A = c.args in omega (arith, next_most A.stream.now L.i (A.n - L.i), L.invariant.1)

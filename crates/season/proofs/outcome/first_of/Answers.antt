@@ -2,7 +2,6 @@
 use native.Mathlib.Omega.{arith}
 use Rattle.order.specs.Held.{as_order}
 use Rattle.season.proofs.Orders.{first_none, first_some, times_fit, weights_fit}
-use borrow.Author.Rules.{rules}
 use Rattle.season.proofs.outcome.first_of.Goals as goal
 
 pub returns-then-t-eq0 : goal.returns-then-t-eq0

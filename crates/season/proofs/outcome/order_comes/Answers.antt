@@ -1,15 +1,9 @@
 -- `order_comes` meets its contract: refused by its reading, or what the order comes to (Orders).
-use mathlib.Core.Path.{◌≡◌}
 use native.Mathlib.Omega.{arith}
-use Rattle.model.specs.Limits.{most_bay}
-use Rattle.model.specs.Records.{read}
-use Rattle.model.specs.Orders.{read_order}
 use Rattle.model.proofs.Orders.{read_fits}
-use Rattle.order.specs.Held.{as_order}
 use Rattle.order.proofs.Settles.{was_read, was_refused}
 use Rattle.season.specs.Held.{OutcomeFits, as_outcome}
 use Rattle.season.proofs.Orders.{comes_read, comes_unread}
-use borrow.Author.Rules.{rules}
 use Rattle.season.proofs.outcome.order_comes.Goals as goal
 
 pub returns-then-r-ne0 : goal.returns-then-r-ne0
