@@ -1,4 +1,3 @@
-pub mod Begins
 pub mod OneMore
 pub mod Orders
 pub mod Adding

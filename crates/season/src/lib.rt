@@ -13,7 +13,7 @@ ghost use Rattle.season.specs.Held.{as_added_up, OpensWithFans, SeasonIn};
 pub use figures::Season;
 pub use outcome::Rate;
 use outcome::order_comes;
-use records::{FANS_KIND, RECORD_SIZE, kind_at, record_count};
+use records::{Kind, RECORD_SIZE, kind_at, record_count};
 use steps::limits::STREAM_ROOM;
 
 // Refusal 16: "the stream is longer, is not whole records, or is not empty and doesn't open with F".
@@ -34,7 +34,7 @@ fn next_fans(stream: &[u8], from: usize, n: usize) -> usize
     ensures { result ≡ from + before_next stream.now from (n - from) }
 {
     for i in from..n {
-        if kind_at(stream, i) == FANS_KIND {
+        if kind_at(stream, i) == Kind::Fans {
             return i;
         }
     }
@@ -67,7 +67,7 @@ fn stream_fits(stream: &[u8]) -> bool
 {
     stream.len() <= STREAM_ROOM
         && stream.len() % RECORD_SIZE == 0
-        && (stream.is_empty() || kind_at(stream, 0) == FANS_KIND)
+        && (stream.is_empty() || kind_at(stream, 0) == Kind::Fans)
 }
 
 // A stream of orders added up.
