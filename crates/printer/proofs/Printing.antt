@@ -1,11 +1,12 @@
 -- Laws of the printer: a plan's records and their text have room, and what stands in the text buffer is the answer's text. Assumes nothing.
-use mathlib.Core.Path.{◌≡◌}
+use mathlib.Core.Path.{◌≡◌, sym}
 use mathlib.Core.Bool.{Bool, true, false}
 use mathlib.Core.List.{List}
 use Prim.Native.Nat.{ℕ, ◌+◌, ◌*◌, ◌≤◌}
 use native.Mathlib.Omega.{arith}
 use Rattle.model.specs.Limits.{last_open_bay, plan_room}
 use Rattle.model.specs.Records.{record_size, pick}
+use borrow.Author.Tests.{eq-eqb, ne_eqb}
 use lib.Dec.{eqb}
 use lib.ListN.{length, take}
 use Rattle.model.specs.Answers.{Planned, Plans, no_room, refuses, plans}
@@ -14,7 +15,7 @@ use Rattle.model.proofs.Planner.{plan_length, plan_room_lem}
 use Rattle.lines.specs.Text.{Put, plan_text, refused_text}
 use Rattle.lines.proofs.Puts.{put_front, put_length}
 use Rattle.lines.proofs.Records.{plan_text_length, refused_length}
-use Rattle.printer.specs.Prints.{Prints, SaysOrder, answer_text}
+use Rattle.printer.specs.Prints.{SaysOrder, answer_text}
 
 -- "plan buffer under 47,392 bytes (24 classes and 1,457 slots)": no plan has more records
 pub few_records : {order before after : List ℕ} {r : Planned} → Plans order before r after → record_size * (r.classes + r.slots) ≤ plan_room
@@ -31,27 +32,18 @@ answer_length r plan = by_test (eqb r.answer.number 0)
     by_test true = plan_text_length plan r.classes r.slots
     by_test false = omega (arith, refused_length r.answer.number r.answer.place r.answer.set r.answer.weight r.answer.time)
 
--- an answer whose text was put, and of which it is told whether it is a refusal
-pub prints : {order before after text text' : List ℕ} {r : Planned} {planned : Bool} {end : ℕ}
-    → Plans order before r after → 237120 ≤ length text → Put (answer_text r after) text 0 text' end → planned ≡ eqb r.answer.number 0
-    → Prints order before after text text' planned end
-prints {after = after} {r = r} h room p e = record {
-  answer = r;
-  plans = h;
-  put = p;
-  inside = omega (arith, p.next, put_length p, few_records h, answer_length r after);
-  told = e;
-}
+-- what was put into the text buffer says what was planned
+module _ {order before after text text' : List ℕ} {r : Planned} {end : ℕ} (room : length before ≡ plan_room) (h : Plans order before r after) (long : 237120 ≤ length text) where
+  says : (planned : Bool) → Put (answer_text r after) text 0 text' end → planned ≡ eqb r.answer.number 0 → (end ≤ length text') × SaysOrder order (take end text') planned
+  says planned p e =
+      let inside : end ≤ length text' = omega (arith, p.next, put_length p, few_records h, answer_length r after) in
+      (inside, record { before = before; room = room; after = after; answer = r; plans = h; is = put_front p inside; told = e })
 
--- the text that was put is what the answer says
-pub says : {order before after text text' : List ℕ} {planned : Bool} {end : ℕ} → length before ≡ plan_room
-    → Prints order before after text text' planned end → SaysOrder order (take end text') planned
-says {before = before} {after = after} room h = record {
-  before = before;
-  room = room;
-  after = after;
-  answer = h.answer;
-  plans = h.plans;
-  is = put_front h.put h.inside;
-  told = h.told;
-}
+  -- a plan
+  pub says_plan : r.answer.number ≡ 0 → Put (plan_text after r.classes r.slots) text 0 text' end → (end ≤ length text') × SaysOrder order (take end text') true
+  says_plan z p = let none = eq-eqb r.answer.number 0 z in says true (rw none p) (sym none)
+
+  -- or a refusal
+  pub says_refusal : (r.answer.number ≡ 0 → ⊥) → Put (refused_text r.answer.number r.answer.place r.answer.set r.answer.weight r.answer.time) text 0 text' end
+      → (end ≤ length text') × SaysOrder order (take end text') false
+  says_refusal n p = let some = ne_eqb r.answer.number 0 n in says false (rw some p) (sym some)

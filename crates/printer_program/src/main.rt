@@ -3,10 +3,8 @@
 #![tactic(auto)]
 
 use printer::printer_main;
-use programs::exit_code;
 use std::process::ExitCode;
 
 fn main(rt: HostRuntime) -> ExitCode {
-    let status = printer_main(&mut rt.stdin(), &mut rt.stdout());
-    exit_code(status)
+    ExitCode::from(printer_main(&mut rt.stdin(), &mut rt.stdout()))
 }

@@ -2,11 +2,9 @@
 // standard output. It exits 0 where it added up, 1 where it printed a refusal, 2 where its input can't be read or its text can't be written whole.
 #![tactic(auto)]
 
-use programs::exit_code;
 use season_printer::season_main;
 use std::process::ExitCode;
 
 fn main(rt: HostRuntime) -> ExitCode {
-    let status = season_main(&mut rt.stdin(), &mut rt.stdout());
-    exit_code(status)
+    ExitCode::from(season_main(&mut rt.stdin(), &mut rt.stdout()))
 }
