@@ -4,7 +4,10 @@ use mathlib.Core.List.{List}
 use mathlib.Core.Path.{◌≡◌, refl, ap, ◌∙◌, sym}
 use Prim.Native.Nat.{ℕ, zero, suc, ◌+◌, ◌<◌, ◌≤◌}
 use native.Mathlib.Omega.{arith}
+use borrow.Author.Tests.{clash}
 use lib.ListN.{get_or, length, take}
+use Rattle.std.proofs.Common.{None, Option, Some}
+use Rattle.std.specs.Option.{is_some}
 use Rattle.std.specs.List as list
 use Rattle.std.proofs.lemmas.List.{get_or_past, take_all}
 use Rattle.std.proofs.lemmas.List.Sums.{sum_by_more}
@@ -30,6 +33,10 @@ use Rattle.classes.specs.declared.Tally.{Tally}
 use Rattle.classes.specs.declared.TooFast.{TooFast}
 use Rattle.steps.proofs.Tests.{below_or}
 use Rattle.season.specs.Held.{OrderComes, above, below, most_of_order}
+
+none_of : {A : Type 0} (x : Option A) → is_some x ≡ false → x ≡ None
+none_of None e = refl
+none_of (Some a) e = absurd (clash (sym e))
 
 -- the first n numbers of a list, together
 pub first_sum : (n : ℕ) (xs : List ℕ) → list.sum (take n xs) ≡ sum n (λ i. get_or xs i 0)
@@ -70,19 +77,20 @@ module _ (o : Order) (fit : Fit o) (t : Tally) (c : ClassesOf o t) where
       rw (c.weight 0 l, time) (first_class (classes_in t 0) (first_next o t.class (classes_in t) c.classes l))
 
   -- 9
-  pub comes_above : {top : TooFast} → AgainstTop o top → top.above ≡ true → OrderComes o (refused_by 9)
-  comes_above h e = let x = h.above e in above x.0 x.1 x.2
+  pub comes_above : {top : Option TooFast} → AgainstTop o top → is_some top ≡ true → OrderComes o (refused_by 9)
+  comes_above {top = Some f} h e = let x = h.above f refl in above x.0 x.1 x.2
+  comes_above {top = None} h e = absurd (clash e)
 
   -- or the figures: its own plan, which nobody writes, stands and takes the P of its classes
-  pub comes_below : {top : TooFast} {table : List (List ℕ)} {shares : List ℕ} → SharesOf o t table shares → AgainstTop o top → top.above ≡ false
+  pub comes_below : {top : Option TooFast} {table : List (List ℕ)} {shares : List ℕ} → SharesOf o t table shares → AgainstTop o top → is_some top ≡ false
       → (grams seconds : ℕ) → grams ≡ list.sum (take t.class t.weight) → seconds ≡ list.sum (take t.class t.time)
       → (first : Rate) → FirstRate o first → OrderComes o (accepted_with grams seconds first)
-  comes_below {shares = shares} s h e grams seconds eg es first f =
+  comes_below {top = top} {shares = shares} s h e grams seconds eg es first f =
       let C = classes_in t in
       let stands = plan_stands o fit t.class C c.classes (shares_in t shares) s.valid in
       let all_grams = eg ∙ first_sum t.class t.weight ∙ sum_congr t.class (λ i l. c.weight i l) ∙ classes_grams o t.class C c.classes in
       let all_seconds = es ∙ first_sum t.class t.time ∙ sum_congr t.class (λ i l. c.time i l) in
-      rw (all_grams, all_seconds) (below (h.slow e) _ stands _ (stands_takes o fit _ stands t.class C c.classes) first f)
+      rw (all_grams, all_seconds) (below (h.slow (none_of top e)) _ stands _ (stands_takes o fit _ stands t.class C c.classes) first f)
 
 -- ---- the bytes of an order
 

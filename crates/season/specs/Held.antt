@@ -9,6 +9,7 @@ use Rattle.model.specs.Answers.{FirstClass, above_top, done, refusal}
 use Rattle.model.specs.Stands.{Stands}
 use Rattle.model.specs.Season.{Comes, FirstRate, Takes, begins, not_added_up, orders_from, season_of}
 use Rattle.model.specs.Season as season
+use Rattle.order.specs.Held as order
 use Rattle.season.specs.declared.outcome.Rate.{Rate}
 use Rattle.season.specs.declared.outcome.Accepted.{Accepted}
 use Rattle.season.specs.declared.outcome.Refused.{Refused}
@@ -21,7 +22,7 @@ as_rate r = record { weight = r.weight; time = r.time }
 
 -- the number of a refusal
 abbrev pub number_of : Refused → ℕ
-number_of (is.Order r) = r.number
+number_of (is.Order r) = order.number_of r
 number_of is.TooFast = 9
 
 unfoldable pub as_outcome : Result Accepted Refused → season.Outcome

@@ -5,6 +5,7 @@ ghost use Rattle.model.specs.Season as season;
 ghost use Rattle.model.proofs.Orders.{Fit};
 ghost use Rattle.order.specs.Held.{as_order};
 ghost use Rattle.classes.specs.Answer.{ClassesOf};
+ghost use Rattle.season.specs.declared.outcome.Refused.TheVariants as is;
 ghost use Rattle.season.specs.Held.{as_rate, as_outcome, number_of, OutcomeFits, OrderComes, most_of_order};
 
 use classes::{Tally, classes_of, too_fast};
@@ -49,12 +50,20 @@ pub enum Refused {
     TooFast,
 }
 
+impl From<order::Refusal> for Refused {
+    ghost from_gives = { λ refusal refused. refused ≡ is.Order refusal };
+
+    fn from(refusal: order::Refusal) -> Refused {
+        Refused::Order(refusal)
+    }
+}
+
 impl Refused {
     pub(crate) fn number(self) -> u32
         ensures { result ≡ number_of self }
     {
         match self {
-            Refused::Order(refusal) => refusal.number,
+            Refused::Order(refusal) => refusal.number(),
             Refused::TooFast => 9,
         }
     }
@@ -69,9 +78,9 @@ fn together(numbers: &[u64]) -> u64
 }
 
 // The rate of the first class.
-fn first_of(t: Tally, o: Order) -> Rate
-    requires { Fit (as_order o) × ClassesOf (as_order o) t }
-    ensures { FirstRate (as_order o) (as_rate result) }
+fn first_of(o: &Order, t: &Tally) -> Rate
+    requires { Fit (as_order o.now) × ClassesOf (as_order o.now) t.now }
+    ensures { FirstRate (as_order o.now) (as_rate result) }
 {
     if t.class == 0 {
         return Rate::NONE;
@@ -83,20 +92,20 @@ fn first_of(t: Tally, o: Order) -> Rate
 }
 
 // An order that was read: 9, or its figures by its classes. No plan is written: its slots would take the P of its classes.
-fn classed(o: Order) -> Result<Accepted, Refused>
-    requires { Fit (as_order o) }
-    ensures { OrderComes (as_order o) (as_outcome result) × OutcomeFits result }
+fn classed(o: &Order) -> Result<Accepted, Refused>
+    requires { Fit (as_order o.now) }
+    ensures { OrderComes (as_order o.now) (as_outcome result) × OutcomeFits result }
 {
     let mut shares = [0u64; CELLS];
     let mut table = [[0u8; MOST_INTERVALS]; MOST_DOSES];
     let t = classes_of(o, &mut shares, &mut table);
-    if too_fast(o, t).above {
+    if too_fast(o, &t).is_some() {
         return Err(Refused::TooFast);
     }
     Ok(Accepted {
         grams: together(&t.weight[..t.class]),
         seconds: together(&t.time[..t.class]),
-        first: first_of(t, o),
+        first: first_of(o, &t),
     })
 }
 
@@ -104,12 +113,6 @@ fn classed(o: Order) -> Result<Accepted, Refused>
 pub fn order_comes(order: &[u8]) -> Result<Accepted, Refused>
     ensures { Comes order.now (as_outcome result) × OutcomeFits result }
 {
-    let r = read_order(MOST_BAY, order);
-    if r.number != 0 {
-        return Err(Refused::Order(order::Refusal {
-            number: r.number,
-            place: r.place,
-        }));
-    }
-    classed(r.order)
+    let o = read_order(MOST_BAY, order)?;
+    classed(&o)
 }
