@@ -4,10 +4,10 @@
 mod figures; // figures.rt: the figures so far and one order more
 mod outcome; // outcome.rt: what one order comes to
 
-ghost use Rattle.std.specs.Prelude.{◌≡◌, ◌+◌, ◌-◌, ◌/◌, ◌≤◌, length};
+ghost use Rattle.std.specs.Prelude.{◌≡◌, ◌||◌, ◌+◌, ◌-◌, ◌/◌, ◌%◌, ◌≤◌, eqb, length};
 ghost use Rattle.model.specs.Limits.{stream_room};
 ghost use Rattle.model.specs.Records.{record_size};
-ghost use Rattle.model.specs.Season.{before_next, stream_fits, AddsUp};
+ghost use Rattle.model.specs.Season.{before_next, begins, stream_fits, AddsUp};
 ghost use Rattle.season.specs.Held.{as_added_up, OpensWithFans, SeasonIn};
 
 pub use figures::Season;
@@ -61,13 +61,19 @@ fn season_in(stream: &[u8]) -> Season
     season
 }
 
+// Whether whole records are none, or the first is an F.
+fn opens(stream: &[u8]) -> bool
+    requires { length stream.now % record_size ≡ 0 }
+    ensures { result ≡ (eqb (length stream.now) 0 || begins stream.now 0) }
+{
+    stream.is_empty() || kind_at(stream, 0) == Kind::Fans
+}
+
 // "a stream of up to 65,536 bytes", of whole records, that is empty or opens with F.
 fn stream_fits(stream: &[u8]) -> bool
     ensures { result ≡ stream_fits stream.now }
 {
-    stream.len() <= STREAM_ROOM
-        && stream.len() % RECORD_SIZE == 0
-        && (stream.is_empty() || kind_at(stream, 0) == Kind::Fans)
+    stream.len() <= STREAM_ROOM && stream.len() % RECORD_SIZE == 0 && opens(stream)
 }
 
 // A stream of orders added up.
