@@ -18,6 +18,11 @@ use Rattle.order.specs.declared.Reading.{Reading}
 use Rattle.order.proofs.Settles.{as_held}
 use Rattle.draw.specs.Drawing.{Drawable, Sound}
 use Rattle.draw.proofs.Points.{stands_drawable}
+use Rattle.std.proofs.Common.{Err}
+use Rattle.model.proofs.Answers.{judged_zero}
+use Rattle.draw.specs.Drawing.{Numbered, as_refusal}
+use Rattle.draw.specs.declared.Refusal.{Refusal}
+use Rattle.draw.specs.declared.Refusal.TheVariants as refused
 
 -- the order that was read again
 held_again : (order : List ℕ) (r : Reading) → ReadFrom most_bay order r → (o : orders.Order) → read_order most_bay order ≡ read o → r.order ≡ held_order o
@@ -56,6 +61,16 @@ module _ {order plan : List ℕ} (s : Sound order plan) {r : Reading} (h : ReadF
 -- a refusal of the order or the plan
 pub draws_refused : {order plan : List ℕ} {d t : ℕ} {a : Answer} {x : Drawn} → Judges order plan a → a.number ≢ 0 → x ≡ no_point a → Draws order plan d t x
 draws_refused {a = a} j n e = rw e (refuses a j n)
+
+-- the judge's answer 0: the order is accepted and the plan stands
+pub judged_sound : {order plan : List ℕ} {a : Answer} → Judges order plan a → a.number ≡ 0 → Sound order plan
+judged_sound j e = let s = judged_zero j e in record { read_order = s.0; accepts = s.1; stands = s.2 }
+
+-- no refusal is 0
+pub refusal_not_done : (e : Refusal) → Numbered (Err e) → (as_refusal e).number ≢ 0
+refusal_not_done (refused.Plan j) n = n.1
+refusal_not_done refused.NoDose n = λ z. absurd (omega arith)
+refusal_not_done refused.NoTick n = λ z. absurd (omega arith)
 
 -- ---- the pen
 

@@ -1,6 +1,5 @@
 pub mod Walks
 pub mod Seconds
 pub mod Points
-pub mod Answers
 pub mod Drawings
 pub mod Once

@@ -1,35 +1,34 @@
--- Two structs that a promise of `draw` allows for one input are equal. Assumes nothing.
+-- Two answers that a promise of `draw` allows for one input are equal. Assumes nothing.
 use mathlib.Core.Path.{◌≡◌, refl, sym, ap, ◌∙◌}
 use mathlib.Core.List.{List}
 use Prim.Native.Nat.{ℕ}
+use native.Mathlib.Omega.{arith}
+use borrow.Author.Tests.{ne_eqb}
+use lib.Dec.{eqb}
+use Rattle.std.proofs.Common.{Result, Ok, Err}
+use Rattle.model.specs.Records.{pick}
 use Rattle.model.specs.Line.{dosing, finished, idle, shut}
 use Rattle.model.specs.Line as line
-use Rattle.model.specs.Answers.{Draws, Moves}
+use Rattle.model.specs.Answers.{Answer, Draws, Moves}
 use Rattle.model.specs.Answers as answers
 use Rattle.model.proofs.Answers.{draws_one, moves_one}
-use Rattle.draw.specs.Drawing.{as_drawn, as_pen, as_state, pen_at}
+use Rattle.judge.specs.declared.Judged.{Judged}
+use Rattle.judge.specs.declared.Judged.TheVariants as judged
+use Rattle.draw.specs.Drawing.{Numbered, as_drawn, as_pen, as_point, as_state, pen_at}
 use Rattle.draw.specs.declared.State.{State}
 use Rattle.draw.specs.declared.State.TheVariants as is
-use Rattle.draw.specs.declared.Drawn.{Drawn}
+use Rattle.draw.specs.declared.Point.{Point}
+use Rattle.draw.specs.declared.Refusal.{Refusal}
+use Rattle.draw.specs.declared.Refusal.TheVariants as refused
 use Rattle.draw.specs.declared.Pen.{Pen}
-use Rattle.draw.specs.declared.Moved.{Moved}
 
--- the structs, from what they say
+-- ---- the answers, from what they say
+
 unfoldable held_state : line.State → State
 held_state finished = is.Finished
 held_state shut = is.Shut
 held_state idle = is.Idle
 held_state (dosing fan) = is.Dosing fan
-
-abbrev held_drawn : answers.Drawn → Drawn
-held_drawn d = record {
-  number = d.answer.number;
-  place = d.answer.place;
-  set = d.answer.set;
-  weight = d.answer.weight;
-  time = d.answer.time;
-  point = record { amount = d.point.amount; state = held_state d.point.state };
-}
 
 state_back : (s : State) → held_state (as_state s) ≡ s
 unfolding held_state as_state
@@ -38,30 +37,57 @@ state_back is.Shut = refl
 state_back is.Idle = refl
 state_back (is.Dosing fan) = refl
 
-drawn_back : (d : Drawn) → held_drawn (as_drawn d) ≡ d
-drawn_back d = rw (state_back d.point.state)
+-- a point that says the same is the same
+pub point_one : (x y : Point) → as_point x ≡ as_point y → x ≡ y
+point_one x y e =
+    let back : (p : Point) → record { amount = p.amount; state = held_state (as_state p.state) } ≡ p = λ p. rw (state_back p.state) in
+    sym (back x) ∙ ap (λ (p : line.Point). record { amount = p.amount; state = held_state p.state }) e ∙ back y
 
--- a drawing that says the same is the same
-pub drawn_one : (x y : Drawn) → as_drawn x ≡ as_drawn y → x ≡ y
-drawn_one x y e = sym (drawn_back x) ∙ ap held_drawn e ∙ drawn_back y
+abbrev held_verdict : Answer → Judged
+held_verdict a = pick (eqb a.number 9) (judged.TooFast a.set a.weight a.time) (pick (eqb a.number 10) judged.Falls (judged.Refused a.number a.place))
 
--- point_at has one answer for each input
-pub points_once : (order plan : List ℕ) (dose tick : ℕ) (x y : Drawn) → Draws order plan dose tick (as_drawn x) → Draws order plan dose tick (as_drawn y) → x ≡ y
-points_once order plan dose tick x y a b = drawn_one x y (draws_one a b)
+abbrev held_refusal : Answer → Refusal
+held_refusal a = pick (eqb a.number 11) refused.NoDose (pick (eqb a.number 12) refused.NoTick (refused.Plan (held_verdict a)))
+
+abbrev held_drawn : answers.Drawn → Result Point Refusal
+held_drawn d = pick (eqb d.answer.number 0) (Ok (record { amount = d.point.amount; state = held_state d.point.state })) (Err (held_refusal d.answer))
+
+drawn_back : (x : Result Point Refusal) → Numbered x → held_drawn (as_drawn x) ≡ x
+drawn_back (Ok p) n = ap (λ (s : State). Ok (record { amount = p.amount; state = s })) (state_back p.state)
+drawn_back (Err (refused.Plan judged.Stands)) n = absurd (n.1 refl)
+drawn_back (Err (refused.Plan (judged.Refused number place))) n =
+    rw (
+      ne_eqb number 0 n.1,
+      ne_eqb number 11 (λ e. omega (arith, n.0.1)),
+      ne_eqb number 12 (λ e. omega (arith, n.0.1)),
+      ne_eqb number 9 (λ e. omega (arith, n.0.1)),
+      ne_eqb number 10 (λ e. omega (arith, n.0.1)),
+    )
+drawn_back (Err (refused.Plan (judged.TooFast set weight time))) n = refl
+drawn_back (Err (refused.Plan judged.Falls)) n = refl
+drawn_back (Err refused.NoDose) n = refl
+drawn_back (Err refused.NoTick) n = refl
+
+-- an answer that says the same is the same
+pub drawn_one : (x y : Result Point Refusal) → Numbered x → Numbered y → as_drawn x ≡ as_drawn y → x ≡ y
+drawn_one x y n m e = sym (drawn_back x n) ∙ ap held_drawn e ∙ drawn_back y m
+
+-- ---- one answer for each input
+
+-- point_at
+pub points_once : (order plan : List ℕ) (dose tick : ℕ) (x y : Result Point Refusal) → Draws order plan dose tick (as_drawn x) → Numbered x
+    → Draws order plan dose tick (as_drawn y) → Numbered y → x ≡ y
+points_once order plan dose tick x y a n b m = drawn_one x y n m (draws_one a b)
 
 abbrev held_pen : answers.Pen → Pen
 held_pen p = record { dose = p.dose; tick = p.tick }
 
--- move_on has one answer for each input
-pub moves_once : (order plan : List ℕ) (dose tick : ℕ) (x y : Moved) → Moves order plan (pen_at dose tick) (as_drawn x.drawn) (pen_at dose x.tick)
-    → Moves order plan (pen_at dose tick) (as_drawn y.drawn) (pen_at dose y.tick) → x ≡ y
-moves_once order plan dose tick x y a b =
-    let e = moves_one a b in
-    let drawn = drawn_one x.drawn y.drawn e.0 in
-    λ i. record { tick = (e.1 i).tick; drawn = drawn i }
+-- advance, which leaves one pen
+pub pens_once : (order plan : List ℕ) (pen : Pen) (x y : Result Point Refusal) (to to' : Pen) → Moves order plan (as_pen pen) (as_drawn x) (as_pen to) → Numbered x
+    → Moves order plan (as_pen pen) (as_drawn y) (as_pen to') → Numbered y → (x ≡ y) × (to ≡ to')
+pens_once order plan pen x y to to' a n b m = let e = moves_one a b in (drawn_one x y n m e.0, ap held_pen e.1)
 
--- advance has one answer for each input, and leaves one pen
-pub pens_once : (order plan : List ℕ) (pen : Pen) (x y : Drawn) (to to' : Pen) → Moves order plan (as_pen pen) (as_drawn x) (as_pen to)
-    → Moves order plan (as_pen pen) (as_drawn y) (as_pen to') → (x ≡ y) × (to ≡ to')
-pens_once order plan pen x y to to' a b =
-    let e = moves_one a b in (drawn_one x y e.0, ap held_pen e.1)
+-- and of a dose and a tick
+pub moves_once : (order plan : List ℕ) (dose tick : ℕ) (x y : Result Point Refusal) (to to' : ℕ) → Moves order plan (pen_at dose tick) (as_drawn x) (pen_at dose to) → Numbered x
+    → Moves order plan (pen_at dose tick) (as_drawn y) (pen_at dose to') → Numbered y → (x ≡ y) × (to ≡ to')
+moves_once order plan dose tick x y to to' a n b m = let e = moves_one a b in (drawn_one x y n m e.0, ap (λ (p : answers.Pen). p.tick) e.1)

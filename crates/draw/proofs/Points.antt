@@ -5,9 +5,6 @@ use Prim.Native.Nat.{ℕ, ◌+◌, ◌/◌, ◌<◌, ◌≤◌}
 use native.Mathlib.Nat.{le_of_mul-le-mul_right, mul-le-mul_right}
 use native.Mathlib.Omega.{arith}
 use borrow.Author.Tests.{le-leb, lt-leb, le-ltb, lt-ltb}
-use lib.ListN.{get_or}
-use mir.Syntax.{w32}
-use mir.Val.{Fits}
 use Rattle.model.specs.Limits.{most_bay, most_grams}
 use Rattle.model.specs.Records.{read}
 use Rattle.model.specs.Orders.{dose_at, read_order}
@@ -27,30 +24,27 @@ use Rattle.model.proofs.Planner.{stand_read, time_most}
 use Rattle.model.proofs.Standing.{plan_line}
 use Rattle.model.proofs.ValidShares.{class_weighs}
 use Rattle.order.proofs.Fields.{dose_is}
-use Rattle.order.specs.Held.{as_order}
+use Rattle.order.specs.Held.{as_order, dose_held}
+use Rattle.std.proofs.Math.Logic.{∥∥₁_elim}
+use mathlib.Core.HLevel.{×_prop}
+use Rattle.std.proofs.Math.Bridge.{le_prop}
 use Rattle.order.specs.declared.Order.{Order}
 use Rattle.draw.specs.Drawing.{Drawable}
 
 -- ---- a dose's state
 
-module _ (o : Order) (slots : List Slot) (d t : ℕ) (dn : d < o.count) where
-  abbrev release : ℕ
-  release = get_or o.release d 0
-
-  abbrev deadline : ℕ
-  deadline = get_or o.deadline d 0
-
-  pub state_finished : deadline ≤ t → finished ≡ state_at (as_order o) slots d t
+module _ (o : Order) (slots : List Slot) (d t : ℕ) (dn : d < o.count) {x : orders.Dose} (is : x ≡ dose_held o d) where
+  pub state_finished : x.deadline ≤ t → finished ≡ state_at (as_order o) slots d t
   unfolding state_at
-  state_finished h = rw (← dose_is o d dn, le-leb deadline t h)
+  state_finished h = rw (← (is ∙ dose_is o d dn), le-leb x.deadline t h)
 
-  pub state_shut : t < deadline → t < release → shut ≡ state_at (as_order o) slots d t
+  pub state_shut : t < x.deadline → t < x.release → shut ≡ state_at (as_order o) slots d t
   unfolding state_at
-  state_shut h g = rw (← dose_is o d dn, lt-leb deadline t h, lt-ltb t release g)
+  state_shut h g = rw (← (is ∙ dose_is o d dn), lt-leb x.deadline t h, lt-ltb t x.release g)
 
-  pub state_open : t < deadline → release ≤ t → fed_at slots d t ≡ state_at (as_order o) slots d t
+  pub state_open : t < x.deadline → x.release ≤ t → fed_at slots d t ≡ state_at (as_order o) slots d t
   unfolding state_at
-  state_open h g = rw (← dose_is o d dn, lt-leb deadline t h, le-ltb t release g)
+  state_open h g = rw (← (is ∙ dose_is o d dn), lt-leb x.deadline t h, le-ltb t x.release g)
 
 -- ---- its amount
 
@@ -58,23 +52,15 @@ module _ (o : Order) (slots : List Slot) (d t : ℕ) (dn : d < o.count) where
 pub slots_known : (b : List ℕ) (d : ℕ) (h : Drawable b d) → slots_read (plan_records b) ≡ slots_in h.records
 slots_known b d h = rw h.are
 
-module _ (b : List ℕ) (d : ℕ) (h : Drawable b d) where
-  abbrev slots : List Slot
-  slots = slots_read (plan_records b)
-
-  pub has_time : 0 < time_of slots d
-  has_time = rw (slots_known b d h) h.some_time
-
-  -- no amount is more than a dose may have
-  pub amount_most : (t : ℕ) → units_before slots d t / time_of slots d ≤ most_grams
-  amount_most t =
-      rw (slots_known b d h)
-      (le_of_mul-le-mul_right {k = time_of (slots_in h.records) d}
+-- the dose has a P, and no amount is more than a dose may have
+pub amounts : (b : List ℕ) (d : ℕ) → ∥ Drawable b d ∥₁ → (t : ℕ)
+    → (0 < time_of (slots_read (plan_records b)) d) × (units_before (slots_read (plan_records b)) d t / time_of (slots_read (plan_records b)) d ≤ most_grams)
+amounts b d had t = ∥∥₁_elim had (×_prop le_prop le_prop) (λ h. rw (slots_known b d h) (
+  h.some_time,
+  le_of_mul-le-mul_right {k = time_of (slots_in h.records) d}
       (omega (arith, drawn_near (units_before (slots_in h.records) d t) (time_of (slots_in h.records) d) h.some_time, h.units_most t))
-      h.some_time)
-
-  pub amount_fits : (t : ℕ) → Fits w32 (units_before slots d t / time_of slots d)
-  amount_fits t = omega (arith, amount_most t)
+      h.some_time,
+))
 
 -- ---- in a plan that stands
 

@@ -16,14 +16,21 @@ use Rattle.model.specs.Lists.{All, none, also, total}
 use Rattle.model.specs.Records.{pick, read, refused, record_size, class_kind, slot_kind, blank_at, class_parts, slot_parts, record_at, read_from, read_all}
 use Rattle.model.specs.Plans.{Slot, PlanRecord, class_record, slot_record, class_of, slot_of, plan_record_of, plan_records, slots_in, slots_read}
 use Rattle.model.specs.Stands.{starts}
-use Rattle.model.specs.Line.{unfed, fed_by, units_before, time_of, feeds, starts_before, earlier, earliest, state_by, fed_at}
+use Rattle.model.specs.Line.{finished, shut, idle, dosing, unfed, fed_by, units_before, time_of, feeds, starts_before, earlier, earliest, state_by, fed_at}
 use Rattle.model.specs.Line as line
 use Rattle.model.proofs.Fractions.{compare≤}
 use Rattle.model.proofs.Readings.{no_refusal, passed, went_on}
 use Rattle.records.specs.Plan.{kind_at, slot_in}
-use Rattle.draw.specs.Drawing.{own_slot, slot_units, kept_of, earlier_kept, fed_from, state_kept, Drawable}
-use Rattle.draw.specs.declared.Kept.{Kept}
-use Rattle.draw.specs.declared.Kept.TheVariants.{Unfed, By}
+use Rattle.std.proofs.Common.{Option, Some, None}
+use Rattle.std.proofs.Math.Logic.{∥∥₁_elim}
+use mathlib.Core.HLevel.{×_prop}
+use Rattle.std.proofs.Math.Bridge.{le_prop}
+use native.Mathlib.Nat.{ℕ_set}
+use Rattle.draw.specs.Drawing.{own_slot, slot_units, fed_of, kept_of, earlier_fed, fed_from, state_kept, Drawable}
+use Rattle.std.specs.Option.{MatchOption}
+use Rattle.records.specs.Held.{as_slot}
+use Rattle.records.specs.declared.plan_records.Slot as records
+use Rattle.draw.specs.declared.line.Fed.{Fed}
 use Rattle.draw.proofs.Points.{slots_known}
 
 -- ---- a dose's slots, one after the other
@@ -112,27 +119,30 @@ units_along (s ∷ slots) d t = go (eqb d s.dose) (units_along slots d t)
     go true e = ap (λ (u : ℕ). slot_units s t + u) e
     go false e = omega (arith, e)
 
-module _ {b : List ℕ} {d : ℕ} (h : Drawable b d) (t : ℕ) where
-  units_all : units_left b d t 0 (length b / record_size) ≡ units_before (slots_read (plan_records b)) d t
+-- record k is a slot of the dose that adds u, or it is none
+module _ (b : List ℕ) (d t k m sum : ℕ) (l : 0 < m) (inv : sum + units_left b d t k m ≡ units_left b d t 0 (length b / record_size)) where
+  pub units_more : own_slot b k d ≡ true → (u : ℕ) → u ≡ slot_units (slot_in b k) t → sum + u + units_left b d t (k + 1) (m - 1) ≡ units_left b d t 0 (length b / record_size)
   unfolding units_left
-  units_all = over_all d (units_step t) 0 b h ∙ units_along (slots_read (plan_records b)) d t
+  units_more e u q = omega (arith, q, over_own d (units_step t) 0 b k m l (sym e))
 
-  module _ (k m sum : ℕ) (inv : sum + units_left b d t k m ≡ units_left b d t 0 (length b / record_size)) where
-    pub units_again : 0 < m → sum + on (own_slot b k d) (slot_units (slot_in b k) t) + units_left b d t (k + 1) (m - 1) ≡ units_left b d t 0 (length b / record_size)
-    unfolding units_left
-    units_again l = go (own_slot b k d) refl
-      where
-        go : (own : Bool) → own_slot b k d ≡ own → sum + on own (slot_units (slot_in b k) t) + units_left b d t (k + 1) (m - 1) ≡ units_left b d t 0 (length b / record_size)
-        go true e = omega (arith, over_own d (units_step t) 0 b k m l (sym e))
-        go false e = omega (arith, over_other d (units_step t) 0 b k m l (sym e))
+  pub units_same : own_slot b k d ≡ false → sum + units_left b d t (k + 1) (m - 1) ≡ units_left b d t 0 (length b / record_size)
+  unfolding units_left
+  units_same e = omega (arith, over_other d (units_step t) 0 b k m l (sym e))
 
-    -- no sum of units is more than a dose may have
-    pub units_fit : 0 < m → sum + on (own_slot b k d) (slot_units (slot_in b k) t) ≤ most_grams * most_fan_time
-    units_fit l = omega (arith, units_again l, units_all, ap (λ (slots : List Slot). units_before slots d t) (slots_known b d h), h.units_most t, h.time_most)
+-- the units of all, which are no more than a dose may have
+pub units_all : (b : List ℕ) (d : ℕ) → ∥ Drawable b d ∥₁ → (t : ℕ)
+    → (units_left b d t 0 (length b / record_size) ≡ units_before (slots_read (plan_records b)) d t)
+    × (units_before (slots_read (plan_records b)) d t ≤ most_grams * most_fan_time)
+unfolding units_left
+units_all b d had t = ∥∥₁_elim had (×_prop (ℕ_set _ _) le_prop) (λ h. (
+  over_all d (units_step t) 0 b h ∙ units_along (slots_read (plan_records b)) d t,
+  omega (arith, ap (λ (slots : List Slot). units_before slots d t) (slots_known b d h), h.units_most t, h.time_most),
+))
 
-    pub units_end : m ≡ 0 → sum ≡ units_before (slots_read (plan_records b)) d t
-    unfolding units_left
-    units_end e = omega (arith, over_none d (units_step t) 0 b k m e, units_all)
+pub units_end : (b : List ℕ) (d t k m sum : ℕ) → sum + units_left b d t k m ≡ units_left b d t 0 (length b / record_size) → m ≡ 0 → ∥ Drawable b d ∥₁
+    → sum ≡ units_before (slots_read (plan_records b)) d t
+unfolding units_left
+units_end b d t k m sum inv e had = omega (arith, inv, over_none d (units_step t) 0 b k m e, (units_all b d had t).0)
 
 -- ---- P of the first slot of a dose
 
@@ -168,8 +178,8 @@ module _ {b : List ℕ} {d : ℕ} (h : Drawable b d) (k m : ℕ) (inv : time_lef
 -- ---- the earliest slot of a dose that feeds a second
 
 -- what is kept by m records from record k on
-unfoldable pub fed_left : List ℕ → ℕ → ℕ → ℕ → ℕ → Kept
-fed_left b d t k m = over d (fed_from t) Unfed b k m
+unfoldable pub fed_left : List ℕ → ℕ → ℕ → ℕ → ℕ → Option Fed
+fed_left b d t k m = over d (fed_from t) None b k m
 
 -- numbers compare as their products with a third do
 scaled : (a b : ℕ) {x y w : ℕ} → 0 < w → x ≡ w → y ≡ w → ltb a b ≡ ltb (a * x) (b * y)
@@ -185,15 +195,15 @@ data Names (w : ℕ) : line.Feeding → Type 0 where
 
 module _ (d t w : ℕ) (some : 0 < w) where
   -- among slots that name one W the earlier by units is the earlier, and names it too
-  by_units : (s : Slot) → s.weight ≡ w → {f : line.Feeding} → Names w f → (earlier_kept s (kept_of f) ≡ kept_of (earlier s f)) × Names w (earlier s f)
-  unfolding earlier_kept kept_of earlier starts_before
+  by_units : (s : Slot) → s.weight ≡ w → {f : line.Feeding} → Names w f → (Some (earlier_fed s (kept_of f)) ≡ kept_of (earlier s f)) × Names w (earlier s f)
+  unfolding earlier_fed kept_of earlier starts_before
   by_units s e nobody = (refl, named e)
   by_units s e (named {s = u} g) = (
     rw (scaled (starts u) (starts s) some e g) (kept (ltb (starts u * s.weight) (starts s * u.weight))),
     both (ltb (starts u * s.weight) (starts s * u.weight)),
   )
     where
-      kept : (b : Bool) → pick b (By u.fan (starts u)) (By s.fan (starts s)) ≡ By (pick b u s).fan (starts (pick b u s))
+      kept : (b : Bool) → Some (pick b (fed_of u) (fed_of s)) ≡ Some (fed_of (pick b u s))
       kept true = refl
       kept false = refl
 
@@ -203,7 +213,7 @@ module _ (d t w : ℕ) (some : 0 < w) where
 
   -- so that what is kept along a dose's slots is that of the earliest
   kept_along : {slots : List Slot} → All (λ s. s.dose ≡ d → s.weight ≡ w) slots
-      → (along d (fed_from t) Unfed slots ≡ kept_of (earliest slots d t)) × Names w (earliest slots d t)
+      → (along d (fed_from t) None slots ≡ kept_of (earliest slots d t)) × Names w (earliest slots d t)
   unfolding along earliest fed_from kept_of
   kept_along none = (refl, nobody)
   kept_along (also {a = s} {l = slots} own rest) = go (eqb d s.dose) (feeds s t) refl (kept_along rest)
@@ -211,39 +221,80 @@ module _ (d t w : ℕ) (some : 0 < w) where
       rest_of : line.Feeding
       rest_of = earliest slots d t
 
-      go : (mine fed : Bool) → eqb d s.dose ≡ mine → {a : Kept} → (a ≡ kept_of rest_of) × Names w rest_of
-          → (pick mine (pick fed (earlier_kept s a) a) a ≡ kept_of (pick (mine && fed) (earlier s rest_of) rest_of))
+      go : (mine fed : Bool) → eqb d s.dose ≡ mine → {a : Option Fed} → (a ≡ kept_of rest_of) × Names w rest_of
+          → (pick mine (pick fed (Some (earlier_fed s a)) a) a ≡ kept_of (pick (mine && fed) (earlier s rest_of) rest_of))
           × Names w (pick (mine && fed) (earlier s rest_of) rest_of)
       go true true e h =
           let r = by_units s (own (sym (eqb-true d s.dose e))) h.1 in
-          (ap (earlier_kept s) h.0 ∙ r.0, r.1)
+          (ap (λ (f : Option Fed). Some (earlier_fed s f)) h.0 ∙ r.0, r.1)
       go true false e h = h
       go false fed e h = h
 
 -- by no record
-pub fed_none : (b : List ℕ) (d t k m : ℕ) → m ≡ 0 → Unfed ≡ fed_left b d t k m
+pub fed_none : (b : List ℕ) (d t k m : ℕ) → m ≡ 0 → None ≡ fed_left b d t k m
 unfolding fed_left
-fed_none b d t = over_none d (fed_from t) Unfed b
+fed_none b d t = over_none d (fed_from t) None b
 
--- by one record more, the one in front of those that were passed
-pub fed_back : (b : List ℕ) (d t k n : ℕ) → 0 < k → k ≤ n → {f : Kept} → f ≡ fed_left b d t k (n - k)
-    → pick (own_slot b (k - 1) d) (fed_from t (slot_in b (k - 1)) f) f ≡ fed_left b d t (k - 1) (n - (k - 1))
-unfolding fed_left
-fed_back b d t k n l h e =
-    let here : k - 1 + 1 ≡ k = omega arith in
-    let fewer : n - (k - 1) - 1 ≡ n - k = omega arith in
-    rw e (sym (rw (here, fewer) at (over_first d (fed_from t) Unfed b (k - 1) (n - (k - 1)) (omega arith))))
+-- by one record more, the one in front of those that were passed: a slot of the dose that feeds the second, or another record
+module _ (b : List ℕ) (d t k n : ℕ) (l : k < n) {f : Option Fed} (e : f ≡ fed_left b d t (k + 1) (n - (k + 1))) where
+  fed_back : pick (own_slot b k d) (fed_from t (slot_in b k) f) f ≡ fed_left b d t k (n - k)
+  unfolding fed_left
+  fed_back =
+      let fewer : n - k - 1 ≡ n - (k + 1) = omega arith in
+      rw e (sym (rw fewer at (over_first d (fed_from t) None b k (n - k) (omega arith))))
+
+  pub fed_more : own_slot b k d ≡ true → feeds (slot_in b k) t ≡ true → {x : Fed} → x ≡ earlier_fed (slot_in b k) f → Some x ≡ fed_left b d t k (n - k)
+  unfolding fed_from
+  fed_more own fed q = rw q (rw (own, fed) at fed_back)
+
+  pub fed_other : own_slot b k d ≡ false → f ≡ fed_left b d t k (n - k)
+  fed_other own = rw own at fed_back
+
+  pub fed_not : own_slot b k d ≡ true → feeds (slot_in b k) t ≡ false → f ≡ fed_left b d t k (n - k)
+  unfolding fed_from
+  fed_not own fed = rw (own, fed) at fed_back
 
 state_of_kept : (f : line.Feeding) → state_kept (kept_of f) ≡ state_by f
 unfolding state_kept kept_of state_by
 state_of_kept unfed = refl
 state_of_kept (fed_by s) = refl
 
--- by all of them
-pub fed_all : {b : List ℕ} {d : ℕ} → Drawable b d → (t k : ℕ) → k ≡ 0 → {f : Kept} → f ≡ fed_left b d t k (length b / record_size - k)
+-- by all of them: what the states are is told by numbers, since that bytes are drawable is told without the records
+state_code : line.State → ℕ
+state_code finished = 0
+state_code shut = 1
+state_code idle = 2
+state_code (dosing fan) = suc (suc (suc fan))
+
+coded_state : ℕ → line.State
+coded_state zero = finished
+coded_state (suc zero) = shut
+coded_state (suc (suc zero)) = idle
+coded_state (suc (suc (suc fan))) = dosing fan
+
+state_back : (s : line.State) → coded_state (state_code s) ≡ s
+unfolding coded_state state_code
+state_back finished = refl
+state_back shut = refl
+state_back idle = refl
+state_back (dosing fan) = refl
+
+fed_known : {b : List ℕ} {d : ℕ} → Drawable b d → (t k : ℕ) → k ≡ 0 → {f : Option Fed} → f ≡ fed_left b d t k (length b / record_size - k)
     → state_kept f ≡ fed_at (slots_read (plan_records b)) d t
 unfolding fed_left fed_at
-fed_all {b} {d} h t k z e =
+fed_known {b} {d} h t k z e =
     let kept = (kept_along d t _ h.some_weight h.one_weight).0 in
-    ap state_kept (rw (z, sub-zero) at e ∙ over_all d (fed_from t) Unfed b h ∙ (rw (← slots_known b d h) at kept))
+    ap state_kept (rw (z, sub-zero) at e ∙ over_all d (fed_from t) None b h ∙ (rw (← slots_known b d h) at kept))
     ∙ state_of_kept (earliest (slots_read (plan_records b)) d t)
+
+pub fed_all : (b : List ℕ) (d t k : ℕ) → ∥ Drawable b d ∥₁ → k ≡ 0 → {f : Option Fed} → f ≡ fed_left b d t k (length b / record_size - k)
+    → state_kept f ≡ fed_at (slots_read (plan_records b)) d t
+fed_all b d t k had z {f} e =
+    sym (state_back (state_kept f))
+    ∙ ap coded_state (∥∥₁_elim had (ℕ_set _ _) (λ h. ap state_code (fed_known h t k z e)))
+    ∙ state_back (fed_at (slots_read (plan_records b)) d t)
+
+-- no slot is no slot of the dose
+pub none_owned : {o : Option records.Slot} {own : Bool} (x : Slot) → MatchOption o (own ≡ false) (λ s. (own ≡ true) × (as_slot s ≡ x)) → o ≡ None → own ≡ false
+none_owned {o = None} x m e = m
+none_owned {o = Some s} x m e = cc

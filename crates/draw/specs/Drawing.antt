@@ -1,5 +1,5 @@
--- How the structs of `draw` hold what document 01 speaks of, what one record adds to a dose's line, and what the inner functions ask of plan bytes.
-use Rattle.std.specs.Prelude.{◌≡◌, Bool, ◌&&◌, List, ℕ, ◌*◌, ◌-◌, ◌≤◌, ◌<◌, min, eqb, ltb}
+-- How the types of `draw` hold what document 01 speaks of, what one record adds to a dose's line, and what a dose's line asks of plan bytes.
+use Rattle.std.specs.Prelude.{◌≡◌, ◌≢◌, Bool, ◌&&◌, List, ℕ, ◌*◌, ◌-◌, ◌≤◌, ◌<◌, min, eqb, ltb, Option, Some, None, Result, Ok, Err}
 use Rattle.model.specs.Limits.{most_bay, most_fan_time, most_grams}
 use Rattle.model.specs.Lists.{All}
 use Rattle.model.specs.Records.{pick, read, slot_kind}
@@ -8,16 +8,21 @@ use Rattle.model.specs.Stands.{starts, ends, Stands}
 use Rattle.model.specs.Line.{finished, shut, idle, dosing, unfed, fed_by, units_before, weight_of, time_of}
 use Rattle.model.specs.Line as line
 use Rattle.model.specs.Orders.{Order}
-use Rattle.model.specs.Answers.{Answer, Accepts}
+use Rattle.model.specs.Answers.{Answer, Accepts, done, refusal, no_point}
 use Rattle.model.specs.Answers as answers
 use Rattle.records.specs.Plan.{kind_at, slot_in}
+use Rattle.judge.specs.Verdict.{as_answer}
+use Rattle.judge.specs.Verdict as judge
+use Rattle.judge.specs.declared.Judged.{Judged}
+use Rattle.judge.specs.declared.Judged.TheVariants as judged
 use Rattle.draw.specs.declared.State.{State}
 use Rattle.draw.specs.declared.State.TheVariants as is
-use Rattle.draw.specs.declared.Kept.{Kept}
-use Rattle.draw.specs.declared.Kept.TheVariants as kept
 use Rattle.draw.specs.declared.Point.{Point}
-use Rattle.draw.specs.declared.Drawn.{Drawn}
+use Rattle.draw.specs.declared.Refusal.{Refusal}
+use Rattle.draw.specs.declared.Refusal.TheVariants as refused
+use Rattle.draw.specs.declared.Numbers.{Numbers}
 use Rattle.draw.specs.declared.Pen.{Pen}
+use Rattle.draw.specs.declared.line.Fed.{Fed}
 
 -- ---- points
 
@@ -30,12 +35,39 @@ as_state (is.Dosing fan) = dosing fan
 abbrev pub as_point : Point → line.Point
 as_point p = record { amount = p.amount; state = as_state p.state }
 
+-- a refusal: what the judge says, 11 or 12
+abbrev pub as_refusal : Refusal → Answer
+as_refusal (refused.Plan j) = as_answer j
+as_refusal refused.NoDose = refusal 11 0
+as_refusal refused.NoTick = refusal 12 0
+
 -- the answer in five numbers
 abbrev pub answer_of : ℕ → ℕ → ℕ → ℕ → ℕ → Answer
 answer_of number place set weight time = record { number = number; place = place; set = set; weight = weight; time = time }
 
-abbrev pub as_drawn : Drawn → answers.Drawn
-as_drawn d = record { answer = answer_of d.number d.place d.set d.weight d.time; point = as_point d.point }
+-- and as they come back
+abbrev pub as_numbers : Numbers → Answer
+as_numbers n = answer_of n.number n.place n.set n.weight n.time
+
+-- what drawing answers: a point, or a refusal and no point
+abbrev pub as_drawn : Result Point Refusal → answers.Drawn
+as_drawn (Ok p) = record { answer = done; point = as_point p }
+as_drawn (Err e) = no_point (as_refusal e)
+
+-- the plan's refusals carry 2 to 10, each in its own form: 11 and 12 have variants of their own
+abbrev pub Numbered : Result Point Refusal → Type 0
+Numbered (Ok p) = Unit {0}
+Numbered (Err (refused.Plan j)) = judge.Numbered j × ((as_answer j).number ≢ 0)
+Numbered (Err refused.NoDose) = Unit {0}
+Numbered (Err refused.NoTick) = Unit {0}
+
+abbrev pub judged_again : Result (Unit {0}) Judged → Judged
+judged_again (Ok u) = judged.Stands
+judged_again (Err j) = j
+
+abbrev pub Refuses : Result (Unit {0}) Judged → Type 0
+Refuses (Ok u) = Unit {0}
+Refuses (Err j) = (as_answer j).number ≢ 0
 
 -- a pen at a dose and a tick
 abbrev pub pen_at : ℕ → ℕ → answers.Pen
@@ -55,23 +87,26 @@ unfoldable pub slot_units : Slot → ℕ → ℕ
 slot_units s t = min (ends s) (t * s.weight) - starts s
 
 -- what is kept of the slot by which a dose is fed: its fan, and its start in units of 1/W
-unfoldable pub kept_of : line.Feeding → Kept
-kept_of unfed = kept.Unfed
-kept_of (fed_by s) = kept.By s.fan (starts s)
+abbrev pub fed_of : Slot → Fed
+fed_of s = record { fan = s.fan; start = starts s }
+
+unfoldable pub kept_of : line.Feeding → Option Fed
+kept_of unfed = None
+kept_of (fed_by s) = Some (fed_of s)
 
 -- of a slot and what is kept of another that names the same W, the earlier
-unfoldable pub earlier_kept : Slot → Kept → Kept
-earlier_kept s kept.Unfed = kept.By s.fan (starts s)
-earlier_kept s (kept.By fan start) = pick (ltb start (starts s)) (kept.By fan start) (kept.By s.fan (starts s))
+unfoldable pub earlier_fed : Slot → Option Fed → Fed
+earlier_fed s None = fed_of s
+earlier_fed s (Some f) = pick (ltb f.start (starts s)) f (fed_of s)
 
 -- what feeds the dose by a slot of it and by those behind it
-unfoldable pub fed_from : ℕ → Slot → Kept → Kept
-fed_from t s later = pick (line.feeds s t) (earlier_kept s later) later
+unfoldable pub fed_from : ℕ → Slot → Option Fed → Option Fed
+fed_from t s later = pick (line.feeds s t) (Some (earlier_fed s later)) later
 
 -- the state by what is kept
-unfoldable pub state_kept : Kept → line.State
-state_kept kept.Unfed = idle
-state_kept (kept.By fan start) = dosing fan
+unfoldable pub state_kept : Option Fed → line.State
+state_kept None = idle
+state_kept (Some f) = dosing f.fan
 
 -- ---- plan bytes
 

@@ -5,7 +5,7 @@ ghost use Rattle.std.specs.Prelude.{◌+◌, ◌≤◌, length};
 ghost use Rattle.model.specs.Answers.{Moves};
 ghost use Rattle.draw.specs.Drawing.{as_drawn, as_pen};
 
-use draw::{Drawn, Pen, Point, State};
+use draw::{Pen, Point, Refusal, State};
 use records::{Class, Dose, Fans, Slot, put_class};
 use std::io;
 
@@ -76,42 +76,45 @@ fn show_state(rt: &impl Print, s: State) -> io::Result<()> {
 // Amount, state.
 fn show_point(rt: &impl Print, p: Point) -> io::Result<()> {
     number(rt, p.amount)?;
-    let s = p.state;
-    show_state(rt, s)
+    show_state(rt, p.state)
+}
+
+// The number of an answer, and its point: of a refusal 0 and Shut.
+fn said(drawn: Result<Point, Refusal>) -> (u32, Point) {
+    match drawn {
+        Ok(p) => (0, p),
+        Err(e) => (
+            e.numbers().number,
+            Point {
+                amount: 0,
+                state: State::Shut,
+            },
+        ),
+    }
 }
 
 // Number, amount, state.
 fn show(rt: &impl Print, order: &[u8], plan: &[u8], dose: usize, tick: u32) -> io::Result<()> {
-    let d = draw::point_at(order, plan, dose, tick);
-    number(rt, d.number)?;
-    let p = d.point;
+    let (n, p) = said(draw::point_at(order, plan, dose, tick));
+    number(rt, n)?;
     show_point(rt, p)
 }
 
-// A pen that was lent, and what it drew.
-#[derive(Drop)]
-struct Returned {
-    pen: Pen,
-    drawn: Drawn,
-}
-
-// "The pen is lent and moved on by one tick".
-fn lend(order: &[u8], plan: &[u8], pen: Pen) -> Returned
-    ensures { Moves order.now plan.now (as_pen pen) (as_drawn result.drawn) (as_pen result.pen) }
+// "The pen is lent and moved on by one tick": the pen that comes back, and what it drew.
+fn lend(order: &[u8], plan: &[u8], pen: Pen) -> (Pen, Result<Point, Refusal>)
+    ensures { Moves order.now plan.now (as_pen pen) (as_drawn result.1) (as_pen result.0) }
 {
     let mut lent = pen;
     let drawn = draw::advance(order, plan, &mut lent);
-    Returned { pen: lent, drawn }
+    (lent, drawn)
 }
 
 // A pen's step: number, the pen's tick behind it, amount, state. Gives back the pen.
 fn step(rt: &impl Print, order: &[u8], plan: &[u8], pen: Pen) -> io::Result<Pen> {
-    let r = lend(order, plan, pen);
-    let d = r.drawn;
-    number(rt, d.number)?;
-    let after = r.pen;
+    let (after, drawn) = lend(order, plan, pen);
+    let (n, p) = said(drawn);
+    number(rt, n)?;
     number(rt, after.tick)?;
-    let p = d.point;
     show_point(rt, p)?;
     Ok(after)
 }
@@ -165,11 +168,10 @@ fn second_plan(p: &mut [u8; 160]) {
 }
 
 fn first_points(rt: &impl Print, b: &[u8; 96], p: &[u8; 128]) -> io::Result<()> {
-    show(rt, b, p, 0, 4)?;
-    show(rt, b, p, 0, 5)?;
-    show(rt, b, p, 0, 6)?;
-    show(rt, b, p, 0, 7)?;
-    show(rt, b, p, 0, 10)
+    for tick in [4, 5, 6, 7, 10] {
+        show(rt, b, p, 0, tick)?;
+    }
+    Ok(())
 }
 
 // At the ends: the last tick and the one behind it, no such dose, and bytes that are no plan.
@@ -181,20 +183,18 @@ fn edges(rt: &impl Print, b: &[u8; 96], p: &[u8; 128]) -> io::Result<()> {
 }
 
 fn second_points(rt: &impl Print, b: &[u8; 128], p: &[u8; 160]) -> io::Result<()> {
-    show(rt, b, p, 1, 0)?;
-    show(rt, b, p, 1, 1)?;
-    show(rt, b, p, 1, 2)?;
-    show(rt, b, p, 1, 3)
+    for tick in 0..4 {
+        show(rt, b, p, 1, tick)?;
+    }
+    Ok(())
 }
 
 // Dose 0 of P1 from tick 2 on: Idle until its slot starts at 4.
 fn steps(rt: &impl Print, b: &[u8; 96], p: &[u8; 128]) -> io::Result<()> {
-    let at2 = Pen { dose: 0, tick: 2 };
-    let at3 = step(rt, b, p, at2)?;
-    let at4 = step(rt, b, p, at3)?;
-    let at5 = step(rt, b, p, at4)?;
-    let at6 = step(rt, b, p, at5)?;
-    step(rt, b, p, at6)?;
+    let mut pen = Pen { dose: 0, tick: 2 };
+    for _ in 0..5 {
+        pen = step(rt, b, p, pen)?;
+    }
     Ok(())
 }
 
