@@ -1,11 +1,11 @@
 -- Two answers that a promise of `draw` allows for one input are equal. Assumes nothing.
 use mathlib.Core.Path.{◌≡◌, refl, sym, ap, ◌∙◌}
 use mathlib.Core.List.{List}
-use Prim.Native.Nat.{ℕ}
+use Prim.Native.Nat.{ℕ, ◌≤◌}
 use native.Mathlib.Omega.{arith}
 use borrow.Author.Tests.{ne_eqb}
 use lib.Dec.{eqb}
-use Rattle.std.proofs.Common.{Result, Ok, Err}
+use Rattle.std.proofs.Common.{Result, Ok, Err, lit≤}
 use Rattle.model.specs.Records.{pick}
 use Rattle.model.specs.Line.{dosing, finished, idle, shut}
 use Rattle.model.specs.Line as line
@@ -14,7 +14,7 @@ use Rattle.model.specs.Answers as answers
 use Rattle.model.proofs.Answers.{draws_one, moves_one}
 use Rattle.judge.specs.declared.Judged.{Judged}
 use Rattle.judge.specs.declared.Judged.TheVariants as judged
-use Rattle.draw.specs.Drawing.{Numbered, as_drawn, as_pen, as_point, as_state, pen_at}
+use Rattle.draw.specs.Drawing.{Numbered, as_refusal, as_drawn, as_pen, as_point, as_state, pen_at}
 use Rattle.draw.specs.declared.State.{State}
 use Rattle.draw.specs.declared.State.TheVariants as is
 use Rattle.draw.specs.declared.Point.{Point}
@@ -46,27 +46,33 @@ point_one x y e =
 abbrev held_verdict : Answer → Judged
 held_verdict a = pick (eqb a.number 9) (judged.TooFast a.set a.weight a.time) (pick (eqb a.number 10) judged.Falls (judged.Refused a.number a.place))
 
-abbrev held_refusal : Answer → Refusal
+abbrev pub held_refusal : Answer → Refusal
 held_refusal a = pick (eqb a.number 11) refused.NoDose (pick (eqb a.number 12) refused.NoTick (refused.Plan (held_verdict a)))
+
+pub refusal_back : (e : Refusal) → Numbered (Err e) → held_refusal (as_refusal e) ≡ e
+refusal_back (refused.Plan judged.Stands) n = absurd (n.1 refl)
+refusal_back (refused.Plan (judged.Refused number place)) n =
+    rw (ne_eqb number 11 (λ e. omega (arith, n.0.1)), ne_eqb number 12 (λ e. omega (arith, n.0.1)), ne_eqb number 9 (λ e. omega (arith, n.0.1)), ne_eqb number 10 (λ e. omega (arith, n.0.1)))
+refusal_back (refused.Plan (judged.TooFast set weight time)) n = refl
+refusal_back (refused.Plan judged.Falls) n = refl
+refusal_back refused.NoDose n = refl
+refusal_back refused.NoTick n = refl
+
+-- its number is 2 to 12
+pub refusal_few : (e : Refusal) → Numbered (Err e) → (2 ≤ (as_refusal e).number) × ((as_refusal e).number ≤ 12)
+refusal_few (refused.Plan judged.Stands) n = absurd (n.1 refl)
+refusal_few (refused.Plan (judged.Refused number place)) n = (n.0.0, omega (arith, n.0.1))
+refusal_few (refused.Plan (judged.TooFast set weight time)) n = (lit≤ tt, lit≤ tt)
+refusal_few (refused.Plan judged.Falls) n = (lit≤ tt, lit≤ tt)
+refusal_few refused.NoDose n = (lit≤ tt, lit≤ tt)
+refusal_few refused.NoTick n = (lit≤ tt, lit≤ tt)
 
 abbrev held_drawn : answers.Drawn → Result Point Refusal
 held_drawn d = pick (eqb d.answer.number 0) (Ok (record { amount = d.point.amount; state = held_state d.point.state })) (Err (held_refusal d.answer))
 
 drawn_back : (x : Result Point Refusal) → Numbered x → held_drawn (as_drawn x) ≡ x
 drawn_back (Ok p) n = ap (λ (s : State). Ok (record { amount = p.amount; state = s })) (state_back p.state)
-drawn_back (Err (refused.Plan judged.Stands)) n = absurd (n.1 refl)
-drawn_back (Err (refused.Plan (judged.Refused number place))) n =
-    rw (
-      ne_eqb number 0 n.1,
-      ne_eqb number 11 (λ e. omega (arith, n.0.1)),
-      ne_eqb number 12 (λ e. omega (arith, n.0.1)),
-      ne_eqb number 9 (λ e. omega (arith, n.0.1)),
-      ne_eqb number 10 (λ e. omega (arith, n.0.1)),
-    )
-drawn_back (Err (refused.Plan (judged.TooFast set weight time))) n = refl
-drawn_back (Err (refused.Plan judged.Falls)) n = refl
-drawn_back (Err refused.NoDose) n = refl
-drawn_back (Err refused.NoTick) n = refl
+drawn_back (Err e) n = rw (ne_eqb (as_refusal e).number 0 (λ z. omega (arith, (refusal_few e n).0))) (ap (λ (x : Refusal). Err x) (refusal_back e n))
 
 -- an answer that says the same is the same
 pub drawn_one : (x y : Result Point Refusal) → Numbered x → Numbered y → as_drawn x ≡ as_drawn y → x ≡ y
