@@ -1,4 +1,5 @@
 pub mod Steps
+pub mod Chunks
 pub mod Walks
 pub mod Settles
 pub mod Layings
