@@ -1,5 +1,5 @@
 -- How the types of `draw` hold what document 01 speaks of, what one record adds to a dose's line, and what a dose's line asks of plan bytes.
-use Rattle.std.specs.Prelude.{◌≡◌, ◌≢◌, Bool, ◌&&◌, List, ℕ, ◌*◌, ◌-◌, ◌≤◌, ◌<◌, min, eqb, ltb, Option, Some, None, Result, Ok, Err}
+use Rattle.std.specs.Prelude.{◌≡◌, Bool, ◌&&◌, List, ℕ, ◌*◌, ◌-◌, ◌≤◌, ◌<◌, min, eqb, ltb, Option, Some, None, Result, Ok, Err}
 use Rattle.model.specs.Limits.{most_bay, most_fan_time, most_grams}
 use Rattle.model.specs.Lists.{All}
 use Rattle.model.specs.Records.{pick, read, slot_kind}
@@ -11,16 +11,12 @@ use Rattle.model.specs.Orders.{Order}
 use Rattle.model.specs.Answers.{Answer, Accepts, done, refusal, no_point}
 use Rattle.model.specs.Answers as answers
 use Rattle.records.specs.Plan.{kind_at, slot_in}
-use Rattle.judge.specs.Verdict.{as_answer}
 use Rattle.judge.specs.Verdict as judge
-use Rattle.judge.specs.declared.Judged.{Judged}
-use Rattle.judge.specs.declared.Judged.TheVariants as judged
 use Rattle.draw.specs.declared.State.{State}
 use Rattle.draw.specs.declared.State.TheVariants as is
 use Rattle.draw.specs.declared.Point.{Point}
 use Rattle.draw.specs.declared.Refusal.{Refusal}
 use Rattle.draw.specs.declared.Refusal.TheVariants as refused
-use Rattle.draw.specs.declared.Numbers.{Numbers}
 use Rattle.draw.specs.declared.Pen.{Pen}
 use Rattle.draw.specs.declared.line.Fed.{Fed}
 
@@ -37,7 +33,7 @@ as_point p = record { amount = p.amount; state = as_state p.state }
 
 -- a refusal: what the judge says, 11 or 12
 abbrev pub as_refusal : Refusal → Answer
-as_refusal (refused.Plan j) = as_answer j
+as_refusal (refused.Plan r) = judge.as_refusal r
 as_refusal refused.NoDose = refusal 11 0
 as_refusal refused.NoTick = refusal 12 0
 
@@ -45,29 +41,10 @@ as_refusal refused.NoTick = refusal 12 0
 abbrev pub answer_of : ℕ → ℕ → ℕ → ℕ → ℕ → Answer
 answer_of number place set weight time = record { number = number; place = place; set = set; weight = weight; time = time }
 
--- and as they come back
-abbrev pub as_numbers : Numbers → Answer
-as_numbers n = answer_of n.number n.place n.set n.weight n.time
-
 -- what drawing answers: a point, or a refusal and no point
 abbrev pub as_drawn : Result Point Refusal → answers.Drawn
 as_drawn (Ok p) = record { answer = done; point = as_point p }
 as_drawn (Err e) = no_point (as_refusal e)
-
--- the plan's refusals carry 2 to 10, each in its own form: 11 and 12 have variants of their own
-abbrev pub Numbered : Result Point Refusal → Type 0
-Numbered (Ok p) = Unit {0}
-Numbered (Err (refused.Plan j)) = judge.Numbered j × ((as_answer j).number ≢ 0)
-Numbered (Err refused.NoDose) = Unit {0}
-Numbered (Err refused.NoTick) = Unit {0}
-
-abbrev pub judged_again : Result (Unit {0}) Judged → Judged
-judged_again (Ok u) = judged.Stands
-judged_again (Err j) = j
-
-abbrev pub Refuses : Result (Unit {0}) Judged → Type 0
-Refuses (Ok u) = Unit {0}
-Refuses (Err j) = (as_answer j).number ≢ 0
 
 -- a pen at a dose and a tick
 abbrev pub pen_at : ℕ → ℕ → answers.Pen

@@ -5,12 +5,12 @@ mod line; // line.rt: a dose's line in plan bytes
 
 ghost use Rattle.std.specs.Prelude.{◌≡◌, ◌+◌, min};
 ghost use Rattle.model.specs.Limits.{week};
-ghost use Rattle.model.specs.Answers.{refusal, Draws, Moves};
-ghost use Rattle.judge.specs.Verdict.{as_answer, Verdict};
+ghost use Rattle.model.specs.Answers.{Draws, Moves};
+ghost use Rattle.judge.specs.Verdict.{as_numbers};
 ghost use Rattle.draw.specs.declared.Refusal.TheVariants.{Plan};
-ghost use Rattle.draw.specs.Drawing.{as_drawn, as_numbers, as_refusal, as_pen, judged_again, Refuses, Numbered};
+ghost use Rattle.draw.specs.Drawing.{as_drawn, as_refusal, as_pen};
 
-use judge::Judged;
+pub use judge::Numbers;
 pub use line::Line;
 use steps::limits::{MOST_BAY, WEEK};
 
@@ -33,19 +33,9 @@ pub struct Point {
 // "Drawing checks 2 to 9 in the same order, then 10, 11, 12": what the judge refuses, 11 "no such dose", 12 "tick over 604,800".
 #[derive(Clone, Copy)]
 pub enum Refusal {
-    Plan(Judged),
+    Plan(judge::Refusal),
     NoDose,
     NoTick,
-}
-
-// The number and place, and refusal 9's set, W and P: "Fields not meant are 0".
-#[derive(Clone, Copy)]
-pub struct Numbers {
-    pub number: u32,
-    pub place: usize,
-    pub set: u64,
-    pub weight: u64,
-    pub time: u64,
 }
 
 // "it holds a dose and a tick"
@@ -55,72 +45,40 @@ pub struct Pen {
     pub tick: u32,
 }
 
-fn refused(number: u32, place: usize) -> Numbers
-    ensures { as_numbers result ≡ refusal number place }
-{
-    Numbers {
-        number,
-        place,
-        set: 0,
-        weight: 0,
-        time: 0,
-    }
-}
-
-fn plan_numbers(j: Judged) -> Numbers
-    ensures { as_numbers result ≡ as_answer j }
-{
-    match j {
-        Judged::Stands => refused(0, 0),
-        Judged::Refused { number, place } => refused(number, place),
-        Judged::TooFast { set, weight, time } => Numbers {
-            number: 9,
-            place: 0,
-            set,
-            weight,
-            time,
-        },
-        Judged::Falls => refused(10, 0),
-    }
-}
-
 impl Refusal {
-    // A refusal in numbers.
+    // A refusal in numbers: "Fields not meant are 0".
     pub fn numbers(self) -> Numbers
         ensures { as_numbers result ≡ as_refusal self }
     {
-        match self {
-            Refusal::Plan(r) => plan_numbers(r),
-            Refusal::NoDose => refused(11, 0),
-            Refusal::NoTick => refused(12, 0),
+        let number = match self {
+            Refusal::Plan(r) => return r.numbers(),
+            Refusal::NoDose => 11,
+            Refusal::NoTick => 12,
+        };
+        Numbers {
+            number,
+            place: 0,
+            set: 0,
+            weight: 0,
+            time: 0,
         }
     }
 }
 
-impl From<Judged> for Refusal {
-    ghost from_gives = { λ j r. r ≡ Plan j };
+impl From<judge::Refusal> for Refusal {
+    ghost from_gives = { λ r e. e ≡ Plan r };
 
-    fn from(j: Judged) -> Refusal {
-        Refusal::Plan(j)
-    }
-}
-
-fn judged(order: &[u8], plan: &[u8]) -> Result<(), Judged>
-    ensures { Verdict order.now plan.now (judged_again result) × Refuses result }
-{
-    match judge::judge(order, plan) {
-        Judged::Stands => Ok(()),
-        j => Err(j),
+    fn from(r: judge::Refusal) -> Refusal {
+        Refusal::Plan(r)
     }
 }
 
 // A dose's point at a tick: "Drawing checks 2 to 9 in the same order, then 10, 11, 12". The order that was judged is read again.
 pub fn point_at(order: &[u8], plan: &[u8], dose: usize, tick: u32) -> Result<Point, Refusal>
-    ensures draws { Draws order.now plan.now dose tick (as_drawn result) }
-    ensures numbered { Numbered result }
+    ensures { Draws order.now plan.now dose tick (as_drawn result) }
 {
-    judged(order, plan)?;
-    let o = order::read_order(MOST_BAY, order).order;
+    judge::judge(order, plan)?;
+    let o = order::read_order(MOST_BAY, order).unwrap();
     if o.count <= dose {
         return Err(Refusal::NoDose);
     }
@@ -140,8 +98,7 @@ fn next_tick(tick: u32) -> u32
 // "The pen is lent and moved on by one tick"; "its answer is the point at the new tick". "12 comes of the pen's tick before it moves", and a
 // refusal leaves the pen as it was.
 pub fn advance(order: &[u8], plan: &[u8], pen: &mut Pen) -> Result<Point, Refusal>
-    ensures moves { Moves order.now plan.now (as_pen pen.old) (as_drawn result) (as_pen pen.new) }
-    ensures numbered { Numbered result }
+    ensures { Moves order.now plan.now (as_pen pen.old) (as_drawn result) (as_pen pen.new) }
 {
     let next = next_tick(pen.tick);
     let p = point_at(order, plan, pen.dose, next)?;

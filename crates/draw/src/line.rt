@@ -14,7 +14,7 @@ ghost use Rattle.draw.specs.Drawing.{as_state, as_point, own_slot, slot_units, e
 
 use crate::{Point, State};
 use order::Order;
-use records::{SLOT_KIND, Slot, ends, kind_at, moment, record_count, slot_at, starts};
+use records::{Kind, Slot, ends, kind_at, moment, record_count, slot_at, starts};
 use steps::product;
 
 // What is kept of a slot by which a dose is fed in a second: its fan, and its start in units of 1/W.
@@ -42,7 +42,7 @@ fn own_slot(plan: &[u8], k: usize, dose: usize) -> Option<Slot>
     ensures { MatchOption result (own_slot plan.now k dose ≡ false) (λ s. (own_slot plan.now k dose ≡ true) × (as_slot s ≡ slot_in plan.now k)) }
 {
     let s = slot_at(plan, k);
-    if dose == s.dose as usize && kind_at(plan, k) == SLOT_KIND {
+    if dose == s.dose as usize && kind_at(plan, k) == Kind::Slot {
         Some(s)
     } else {
         None
