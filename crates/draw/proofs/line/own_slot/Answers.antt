@@ -2,7 +2,7 @@
 use Rattle.std.proofs.Common.{rules, sym, ap, ◌∙◌, ne_eqb}
 use Rattle.model.specs.Plans.{Slot}
 use Rattle.records.specs.declared.kind.Kind.TheVariants as kind
-use Rattle.records.proofs.Told.{of_kind, of_other, slot_told}
+use Rattle.records.proofs.Told.{of_other, slot_told}
 use Rattle.steps.proofs.Tests.{and_false}
 use Rattle.draw.specs.Drawing.{own_slot}
 use Rattle.draw.proofs.line.own_slot.Goals.{else-dose-s-via-then-dose-s+else-eq, else-dose-s-via-else-dose-s}
