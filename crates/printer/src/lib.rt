@@ -22,18 +22,17 @@ impl Program<TEXT_ROOM> for Printer {
     // Plans an order, and prints the plan or the refusal.
     fn answer(order: &[u8], text: &mut [u8; TEXT_ROOM]) -> Result<usize, usize> {
         let mut plan = [0; PLAN_ROOM];
-        let p = plan::plan(order, &mut plan);
-        if p.number != 0 {
-            return Err(lines::print_refusal(
-                u64::from(p.number),
-                p.place as u64,
-                p.set,
-                p.weight,
-                p.time,
+        match plan::plan(order, &mut plan) {
+            Ok(p) => Ok(lines::print_plan(&plan, p.classes, p.slots, text)),
+            Err(refusal) => Err(lines::print_refusal(
+                u64::from(refusal.number()),
+                refusal.place() as u64,
+                refusal.set(),
+                refusal.weight(),
+                refusal.time(),
                 text,
-            ));
+            )),
         }
-        Ok(lines::print_plan(&plan, p.classes, p.slots, text))
     }
 }
 
