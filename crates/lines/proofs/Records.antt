@@ -4,7 +4,6 @@ use mathlib.Core.Bool.{Bool, true, false}
 use mathlib.Core.List.{List, [], ◌∷◌, ◌++◌}
 use Prim.Native.Nat.{ℕ, ◌+◌, ◌*◌, ◌≤◌}
 use native.Mathlib.Omega.{arith}
-use borrow.Author.Tests.{eq-eqb, ne_eqb}
 use lib.Dec.{eqb}
 use lib.ListN.{length, get_or, length-append}
 use Rattle.model.specs.Records.{pick, class_kind, record_at}
@@ -49,17 +48,6 @@ class_line plan i k q = rw (k, q)
 pub slot_line : (plan : List ℕ) (i : ℕ) {s : Slot} → eqb (kind_at plan i) class_kind ≡ false → s ≡ slot_in plan i → record_text (record_at plan i) ≡ slot_text s
 unfolding record_text slot_in
 slot_line plan i k q = rw (k, q)
-
--- ---- a refusal
-
-module _ (number place set weight time : ℕ) where
-  pub nine_line : number ≡ 9 → refused_text number place set weight time ≡ line_text (114 ∷ 101 ∷ 102 ∷ 117 ∷ 115 ∷ 101 ∷ 100 ∷ []) (number ∷ place ∷ set ∷ weight ∷ time ∷ [])
-  unfolding refused_text
-  nine_line k = rw (eq-eqb number 9 k)
-
-  pub other_line : (number ≡ 9 → ⊥) → refused_text number place set weight time ≡ line_text (114 ∷ 101 ∷ 102 ∷ 117 ∷ 115 ∷ 101 ∷ 100 ∷ []) (number ∷ place ∷ [])
-  unfolding refused_text
-  other_line k = rw (ne_eqb number 9 k)
 
 -- ---- whole texts
 

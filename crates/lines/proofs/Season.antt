@@ -1,10 +1,8 @@
 -- Laws of a season's lines: which refusals have one, and how long they are. Assumes nothing.
-use mathlib.Core.Path.{◌≡◌}
 use mathlib.Core.Bool.{Bool, true, false}
 use mathlib.Core.List.{List, [], ◌∷◌, ◌++◌}
 use Prim.Native.Nat.{ℕ, ◌+◌, ◌*◌, ◌≤◌}
 use native.Mathlib.Omega.{arith}
-use borrow.Author.Tests.{eq-eqb, ne_eqb}
 use lib.Dec.{eqb}
 use lib.ListN.{get_or, length, length-append}
 use Rattle.model.specs.Limits.{order_numbers}
@@ -12,17 +10,7 @@ use Rattle.model.specs.Records.{pick}
 use Rattle.lines.specs.Text.{bare_text, met_text, refusals_text, season_text, totals_text}
 use Rattle.lines.proofs.Puts.{bare_length, lines_length}
 
--- a number that was not met has no line
-pub met_none : (number count : ℕ) → count ≡ 0 → met_text number count ≡ []
-unfolding met_text
-met_none number count e = rw (eq-eqb count 0 e)
-
--- one that was met has one
-pub met_line : (number count : ℕ) → (count ≡ 0 → ⊥) → met_text number count ≡ bare_text number (count ∷ [])
-unfolding met_text
-met_line number count ne = rw (ne_eqb count 0 ne)
-
--- of at most 42 bytes
+-- the line of a number is at most 42 bytes long
 pub met_length : (number count : ℕ) → length (met_text number count) ≤ 42
 unfolding met_text
 met_length number count = go (eqb count 0)

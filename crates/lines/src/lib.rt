@@ -85,6 +85,7 @@ impl Text<'_> {
     }
 
     // "`refused` number place, and for 9 also the set, W, P"
+    #[tactic(auto, unfolding(crate::specs::Text::refused_text))]
     fn put_refused(&mut self, number: u64, place: u64, set: u64, weight: u64, time: u64)
         requires { Fits 160 self.old }
         ensures { Adds (refused_text number place set weight time) self.old self.new }
@@ -97,6 +98,7 @@ impl Text<'_> {
     }
 
     // "a line of number and count for each refusal met"
+    #[tactic(auto, using(crate::proofs::Adding::adds_none), unfolding(crate::specs::Text::met_text))]
     fn put_met(&mut self, number: usize, count: u32)
         requires { Fits 42 self.old }
         ensures { Adds (met_text number count) self.old self.new }

@@ -5,31 +5,19 @@ use Prim.Native.Nat.{ℕ, ◌+◌, ◌*◌, ◌≤◌, ◌<◌}
 use native.Mathlib.Nat.{mul-le-mul_right}
 use native.Mathlib.Numerals.{add-one}
 use native.Mathlib.Omega.{arith}
-use borrow.Author.Tests.{eq-eqb, ne_eqb}
 use lib.ListN.{length, get_or}
-use Rattle.model.specs.Limits.{most_fans, most_intervals}
+use Rattle.model.specs.Limits.{most_fans}
 use Rattle.model.specs.Sets.{sum}
 use Rattle.model.specs.Lists.{gather}
 use Rattle.model.specs.Plans.{Slot, slot_record}
 use Rattle.model.specs.Layout.{Lane, interval_slots, lane, lane_slots, table_slots}
 use Rattle.model.proofs.Lists.{sum_before}
-use Rattle.plan_layout.specs.declared.Tables.{Tables}
 use Rattle.plan_layout.specs.Held.{fans_at, lane_at, len_at, share_at, table_from}
 use Rattle.plan_layout.specs.declared.Plan.{Plan}
 use Rattle.plan_layout.specs.declared.filling.Filling.{Filling}
 use Rattle.plan_layout.specs.Laying.{LaneRoom}
 use Rattle.plan_layout.specs.Growing.{Fits, Grows, table_in}
 use Rattle.plan_layout.proofs.Runs.{gather_more, gather_none, gather_room}
-
--- the share of a dose in its own class, and in any other
-module _ (t : Tables) (x : List ℕ) (i k j : ℕ) where
-  pub share_mine : get_or t.class_of k 0 ≡ i + 1 → get_or x (k * most_intervals + j) 0 ≡ share_at t x i k j
-  unfolding share_at
-  share_mine e = rw (eq-eqb (get_or t.class_of k 0) (i + 1) e)
-
-  pub share_other : (get_or t.class_of k 0 ≡ i + 1 → ⊥) → 0 ≡ share_at t x i k j
-  unfolding share_at
-  share_other e = rw (ne_eqb (get_or t.class_of k 0) (i + 1) e)
 
 module _ (x : Filling) where
   -- the slots of class i in interval j

@@ -18,6 +18,7 @@ pub struct Filling<'a> {
 
 impl Filling<'_> {
     // The share of dose k in class i and interval j: none where the dose is of another class.
+    #[tactic(auto, unfolding(crate::specs::Held::share_at))]
     pub(crate) fn share(&self, i: usize, k: usize, j: usize) -> u64
         requires class { i < self.now.tables.now.classes }
         requires dose { k < self.now.tables.now.doses }
@@ -32,6 +33,7 @@ impl Filling<'_> {
     }
 
     // Class i in interval j, above the fans below it.
+    #[tactic(auto, unfolding(crate::specs::Held::lane_at))]
     pub(crate) fn lane(&self, i: usize, j: usize, below: u32) -> Lane
         requires class { i < self.now.tables.now.classes }
         requires interval { j < self.now.tables.now.intervals }

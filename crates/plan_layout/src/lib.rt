@@ -47,6 +47,7 @@ pub struct Plan<'a> {
 }
 
 // The slot from unit low up to unit high of a fan's stretch: "A moment is a tick plus part/W, part below W."
+#[tactic(auto, using(crate::proofs::Shares::tick), unfolding(model::specs::Layout::piece_slot))]
 fn slot_of(l: Lane, dose: u32, fan: u64, low: u64, high: u64) -> Slot
     requires { LaneReady (as_lane l) × (fan ≤ 9) × (low ≤ l.len * l.weight) × (high ≤ l.len * l.weight) }
     ensures { as_slot result ≡ piece_slot (as_lane l) (record { fan = fan; dose = dose; low = low; high = high }) }
