@@ -34,7 +34,8 @@ fn keep_shares(shares: &mut [u64; CELLS], x: &[u64; CELLS], members: &[bool; MOS
 }
 
 // The phases so far: "remaining doses, class number and counts", with the class number of each dose (0: none yet) and W and P of
-// each class.
+// each class. Class numbers are as records have them, from 1. The project uses no heap, so the arrays have room for all classes, and their count
+// stands beside them.
 #[derive(Clone, Copy)]
 pub struct Tally {
     pub remaining: [bool; MOST_DOSES],
@@ -143,7 +144,7 @@ pub fn classes_of(
     requires { Fit (as_order o.now) }
     ensures { ClassesOf (as_order o.now) result × SharesOf (as_order o.now) result table.new shares.new }
 {
-    let instants = interval::instants_of(*o);
+    let instants = interval::instants_of(o);
     let setting = Setting::of(o, &instants);
     let sequence = by_deadline(o);
     *shares = [0; CELLS];

@@ -54,7 +54,7 @@ impl Found<'_> {
     // "its reserved fans" in interval j, of class i, by the interval's length.
     fn reserved(&self, i: usize, j: usize) -> u64 {
         if i < MOST_DOSES && j < MOST_INTERVALS {
-            u64::from(self.table[i][j]).saturating_mul(u64::from(interval::span(self.instants, j)))
+            u64::from(self.table[i][j]).saturating_mul(u64::from(interval::span(&self.instants, j)))
         } else {
             0
         }
@@ -81,8 +81,8 @@ impl Found<'_> {
         }
         k < MOST_DOSES
             && j < MOST_INTERVALS
-            && interval::active(*self.order, self.instants, k, j)
-            && share <= u64::from(interval::span(self.instants, j)).saturating_mul(weight)
+            && interval::active(self.order, &self.instants, k, j)
+            && share <= u64::from(interval::span(&self.instants, j)).saturating_mul(weight)
     }
 
     // Every dose has a class, and its shares stand and come to its "w × P units".
@@ -139,7 +139,7 @@ fn show_order(rt: &impl Print, o: &Order) -> io::Result<()>
     }
     let found = Found {
         order: o,
-        instants: interval::instants_of(*o),
+        instants: interval::instants_of(o),
         tally: &tally,
         shares: &shares,
         table: &table,
@@ -153,13 +153,13 @@ fn show_order(rt: &impl Print, o: &Order) -> io::Result<()>
 }
 
 fn show(rt: &impl Print, bytes: &[u8]) -> io::Result<()> {
-    let r = order::read_order(MOST_BAY, bytes);
-    if r.number != 0 {
-        let (number, place) = (r.number, r.place);
-        return println!(rt; "refused {number} {place}");
+    match order::read_order(MOST_BAY, bytes) {
+        Ok(o) => show_order(rt, &o),
+        Err(refusal) => {
+            let (number, place) = (refusal.number(), refusal.place());
+            println!(rt; "refused {number} {place}")
+        }
     }
-    let o = r.order;
-    show_order(rt, &o)
 }
 
 // The next frame's order. False where the input ends or no order is so long.
@@ -168,7 +168,7 @@ fn show_next(rt: &impl Print, input: &mut impl Read) -> io::Result<bool> {
     if input.read_exact(&mut frame).is_err() {
         return Ok(false);
     }
-    let len = records::number::read32(&frame, 0) as usize;
+    let len = records::number::read::<4>(&frame, 0) as usize;
     if ORDER_ROOM < len {
         return Ok(false);
     }

@@ -21,7 +21,7 @@ pub fn grams_in(o: &Order) -> [u32; MOST_DOSES]
 pub fn lens_in(s: &Instants) -> [u64; MOST_INTERVALS]
     ensures { LensIn s.now result }
 {
-    array::from_fn(|j| u64::from(span(*s, j)))
+    array::from_fn(|j| u64::from(span(s, j)))
 }
 
 // Dose k is active in interval j: both are there, and the window reaches over the interval.
@@ -29,7 +29,7 @@ fn active_at(o: &Order, s: &Instants, intervals: usize, k: usize, j: usize) -> b
     requires { (k < most_doses) × (j < most_intervals) }
     ensures { result ≡ (ltb k o.now.count && (ltb j intervals && active_in o.now s.now k j)) }
 {
-    k < o.count && j < intervals && interval::active(*o, *s, k, j)
+    k < o.count && j < intervals && interval::active(o, s, k, j)
 }
 
 pub fn active_in_order(o: &Order, s: &Instants, intervals: usize) -> [bool; CELLS]
@@ -59,7 +59,7 @@ impl Setting {
         Setting {
             order: *o,
             instants: *s,
-            active: active_in_order(o, s, interval_count(*s)),
+            active: active_in_order(o, s, interval_count(s)),
             lens: lens_in(s),
             grams: grams_in(o),
         }

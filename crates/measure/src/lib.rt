@@ -3,11 +3,12 @@
 
 mod arrays; // arrays.rt: an order's doses and intervals in arrays
 
-ghost use Rattle.std.specs.Prelude.{◌≡◌, false, ℕ, ◌*◌, ◌<◌, ◌≤◌, get_or};
+ghost use Rattle.std.specs.Prelude.{◌≡◌, false, ℕ, ◌+◌, ◌*◌, ◌<◌, ◌≤◌, get_or};
 ghost use Rattle.model.specs.Limits.{most_doses, most_instants, most_intervals};
 ghost use Rattle.model.specs.Sets.{sum, weight};
+ghost use Rattle.model.specs.Sets as sets;
 ghost use Rattle.model.specs.Classes.{set_number};
-ghost use Rattle.interval.specs.Held.{span_in};
+ghost use Rattle.interval.specs.Held.{span_in, active_in};
 ghost use Rattle.measure.specs.Arrays.{set_of, sets_of, grams_of, intervals_of, Below};
 ghost use Rattle.measure.specs.Measure.{count_in, Opens};
 
@@ -64,18 +65,30 @@ pub fn size_of(doses: usize, set: &[bool; MOST_DOSES]) -> u64
     sum
 }
 
-// "(active doses of A)", in interval j.
-fn active_count(o: &Order, s: &Instants, set: &[bool; MOST_DOSES], j: usize) -> u64
-    requires { (o.now.count ≤ most_doses) × (j < most_intervals) }
-    ensures { (result ≡ count_in o.now s.now set.now j) × (result ≤ most_doses) }
+// The active doses so far, interval by interval, with dose k more.
+fn count_dose(counts: &mut [u64; MOST_INTERVALS], o: &Order, s: &Instants, k: usize)
+    requires { (k < most_doses) × (s.now.count ≤ most_instants) × ((j : ℕ) → j < intervals_of s.now → get_or counts.old j 0 < most_doses) }
+    ensures { (j : ℕ) → j < intervals_of s.now → get_or counts.new j 0 ≡ get_or counts.old j 0 + sets.on (active_in o.now s.now k j) 1 }
 {
-    let mut count = 0;
-    for k in 0..o.count {
-        let dose = o.dose(k);
+    let dose = o.dose(k);
+    for j in 0..interval_count(s) {
         let open = dose.release <= s.at[j] && s.at[j + 1] <= dose.deadline;
-        count += on(set[k], on(open, 1));
+        counts[j] += on(open, 1);
     }
-    count
+}
+
+// "(active doses of A)", for each interval. A dose outside the set costs nothing: the classes of a plan are judged by this.
+fn active_row(o: &Order, s: &Instants, set: &[bool; MOST_DOSES]) -> [u64; MOST_INTERVALS]
+    requires { (o.now.count ≤ most_doses) × (s.now.count ≤ most_instants) }
+    ensures { (j : ℕ) → j < intervals_of s.now → (get_or result j 0 ≡ count_in o.now s.now set.now j) × (get_or result j 0 ≤ most_doses) }
+{
+    let mut counts = [0; MOST_INTERVALS];
+    for k in 0..o.count {
+        if set[k] {
+            count_dose(&mut counts, o, s, k);
+        }
+    }
+    counts
 }
 
 // "the smaller of (active doses of A) and (fans − fans reserved by earlier classes)", for each interval.
@@ -88,9 +101,10 @@ pub fn open_fans(
     requires { (o.now.count ≤ most_doses) × (s.now.count ≤ most_instants) }
     ensures { Opens o.now s.now set.now free.now result }
 {
-    let mut reserved = [0u64; MOST_INTERVALS];
-    for j in 0..interval_count(*s) {
-        reserved[j] = active_count(o, s, set, j).min(free[j]);
+    let counts = active_row(o, s, set);
+    let mut reserved = [0; MOST_INTERVALS];
+    for j in 0..interval_count(s) {
+        reserved[j] = counts[j].min(free[j]);
     }
     reserved
 }
@@ -101,8 +115,8 @@ pub fn fan_time(s: &Instants, reserved: &[u64; MOST_INTERVALS]) -> u64
     ensures { result ≡ sum (intervals_of s.now) (λ j. span_in s.now j * get_or reserved.now j 0) }
 {
     let mut sum = 0;
-    for j in 0..interval_count(*s) {
-        sum += u64::from(span(*s, j)) * reserved[j];
+    for j in 0..interval_count(s) {
+        sum += u64::from(span(s, j)) * reserved[j];
     }
     sum
 }
