@@ -9,8 +9,8 @@ use judge_clauses::Certificate;
 use measure::first_set;
 use order::Order;
 use records::class_at;
+use steps::excess;
 use steps::limits::{CELLS, MOST_DOSES, MOST_INTERVALS};
-use steps::product;
 
 // A plan that stands names the order's first class in its first record.
 pub fn by_certificate(o: &Order, plan: &[u8], certificate: &Certificate) -> Option<TooFast>
@@ -21,7 +21,7 @@ pub fn by_certificate(o: &Order, plan: &[u8], certificate: &Certificate) -> Opti
         return None;
     }
     let c = class_at(plan, 0);
-    if product(c.weight, o.top_seconds) <= product(c.time, o.top_grams) {
+    if excess(c.weight, c.time, o.top_grams, o.top_seconds) == 0 {
         return None;
     }
     Some(TooFast {

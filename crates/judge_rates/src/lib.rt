@@ -14,8 +14,8 @@ use measure::{fan_time, open_fans, set_of, size_of, weight_of};
 use order::Order;
 use records::{Class, class_at};
 use std::array;
+use steps::excess;
 use steps::limits::MOST_INTERVALS;
-use steps::product;
 
 // "fans − fans reserved by earlier classes", after one class more.
 fn free_after(
@@ -63,7 +63,7 @@ pub fn classes_fit(plan: &[u8], certificate: &Certificate, o: &Order, instants: 
 fn falls(c: Class, d: Class) -> bool
     ensures { Tells result (Falls (as_class c) (as_class d)) }
 {
-    product(d.weight, c.time) < product(c.weight, d.time)
+    excess(c.weight, c.time, d.weight, d.time) != 0
 }
 
 // "Class rates fall strictly from class to class."

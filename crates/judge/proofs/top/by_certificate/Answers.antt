@@ -9,10 +9,10 @@ use Rattle.judge.proofs.top.by_certificate.Goals as goal
 pub returns-then-certificate-eq0 : goal.returns-then-certificate-eq0
 returns-then-certificate-eq0 c = not_above (as_order c.args.o.now) (λ A f t. c.requires.1.none c.if-certificate-eq0.true A f)
 
-pub returns-then-product : goal.returns-then-product
-returns-then-product c =
+pub returns-then-excess-eq0 : goal.returns-then-excess-eq0
+returns-then-excess-eq0 c =
     let one : 0 < c.args.certificate.now.classes = omega (arith, c.if-certificate-eq0.false) in
-    leader_slow c.args.o.now c.requires.1 one c.class_at-c.ensures (omega (arith, c.product.ensures, c.product-2.ensures, c.if-product.true))
+    leader_slow c.args.o.now c.requires.1 one c.class_at-c.ensures (omega (arith, c.excess.ensures, c.if-excess-eq0.true))
 
 pub first_set-requires : goal.first_set-requires
 first_set-requires c = few_doses c.args.o.now c.requires.0
@@ -21,4 +21,4 @@ pub returns : goal.returns
 returns c =
     let one : 0 < c.args.certificate.now.classes = omega (arith, c.if-certificate-eq0.false) in
     leader_fast c.args.o.now c.requires.1 one c.class_at-c.ensures _ _ _ c.first_set.ensures c.from.ensures c.from-2.ensures
-    (omega (arith, c.product.ensures, c.product-2.ensures, c.if-product.false))
+    (omega (arith, c.excess.ensures, c.if-excess-eq0.false))
