@@ -86,13 +86,14 @@ impl Fill<'_> {
         ensures refilled { Refilled self.old self.new }
         ensures given_back { Written d j (cell self.old.shares.now d j - less) self.old.shares.now self.new.shares.now }
     {
-        let shares = &mut *self.shares;
+        let shares = &mut *self.shares; // as in `take`
         shares[d * MOST_INTERVALS + j] -= less;
     }
 
     // "a chain goes from a dose to an interval and from an interval back to a dose": for dose d, up to `want` more, "leaving a dose by an
     // interval where its share is below L × W". What is less than `least` does not count: thresholds that fall keep the chains few. Gives what
-    // was pushed along the chain, or 0 where there is none; the stations seen on the way are marked.
+    // was pushed along the chain, or 0 where there is none (no Option: callers add it, and a promise speaks of a 0 as of any number); the stations
+    // seen on the way are marked.
     #[cycle(from_dose_from_interval)]
     pub fn from_dose(
         &mut self,

@@ -44,11 +44,3 @@ module _ (n : ℕ) (few : n ≤ most_doses) (marks own : List Bool) (all : (k : 
 
   pub own_none_past : NonePast n (set_of own)
   own_none_past k g l = all k l ∙ ap (λ (b : Bool). b && get_or marks k false) (le-ltb k n g)
-
--- a set without members past the doses has no part there
-pub none_past : (n : ℕ) (A B : Doses) → ((k : ℕ) → T (A k) → T (B k)) → NonePast n B → NonePast n A
-none_past n A B f none k g l = off (A k) (f k) (none k g l)
-  where
-    off : (a : Bool) {b : Bool} → (T a → T b) → b ≡ false → a ≡ false
-    off true f e = absurd (rw e at (f tt))
-    off false f e = refl

@@ -39,7 +39,8 @@ pub fn active_in_order(o: &Order, s: &Instants, intervals: usize) -> [bool; CELL
 }
 
 // What the classes of an order are found by: the order and its instants; which dose is active in which interval, dose k in interval j at
-// k * 47 + j; how long each interval is; what each dose weighs.
+// k * 47 + j; how long each interval is; what each dose weighs. The grams stand beside the order, since needs are laid for all 24 places, and past the
+// doses nothing weighs.
 #[derive(Drop)]
 pub struct Setting {
     pub order: Order,
@@ -47,7 +48,7 @@ pub struct Setting {
     pub active: [bool; CELLS],
     pub lens: [u64; MOST_INTERVALS],
     pub grams: [u32; MOST_DOSES],
-    ghost arrays: { OrderArrays order instants active lens grams },
+    pub ghost arrays: { OrderArrays order instants active lens grams },
 }
 
 impl Setting {

@@ -27,7 +27,8 @@ pub enum Entry {
 }
 
 // "exactly one F, anywhere among up to 24 D": the doses stand at the front, zeros behind the last. The rest is in seconds. The project uses no heap,
-// so the array has room for all, and its count stands beside it.
+// so the array has room for all, and its count stands beside it. That the count fits is asked where it is needed and no invariant: `dose` and
+// `measure::active_in_order` answer for any order.
 #[derive(Clone, Copy)]
 pub struct Order {
     pub fans: u32,
@@ -119,7 +120,7 @@ impl Gathered {
         self.places[n] = k;
     }
 
-    // And record k.
+    // What is gathered, and record k.
     #[tactic(auto, unfolding(crate::specs::Gathered::added))]
     fn add(&mut self, e: Entry, k: usize)
         requires { (self.old.doses < most_records) × (self.old.heads < most_records) }

@@ -14,7 +14,3 @@ record_part bytes k = let e : record_size * k + record_size - record_size * k �
 
 pub part_length : (bytes : List ℕ) (k : ℕ) → record_size * k + record_size ≤ length bytes → length (part_at bytes k) ≡ record_size
 part_length bytes k h = simp (length-take, length-drop) (omega arith)
-
--- what is read of the part lent is read of record k
-pub read_part : {A : Type 0} (read : List ℕ → A) (bytes : List ℕ) (k : ℕ) {x : A} → x ≡ read (part_at bytes k) → x ≡ read (record_at bytes k)
-read_part read bytes k e = e ∙ ap read (record_part bytes k)
