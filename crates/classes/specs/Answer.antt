@@ -7,6 +7,7 @@ use Rattle.model.specs.Intervals.{setting_of, fans_present}
 use Rattle.model.specs.Answers.{Answer, ValidShares, FirstClass, above_top, too_fast}
 use Rattle.classes.specs.declared.Tally.{Tally}
 use Rattle.classes.specs.declared.TooFast.{TooFast}
+use Rattle.classes.specs.declared.numbers.Numbers.{Numbers}
 use Rattle.classes.specs.Phase.{row_at, classes_in, shares_in, Past}
 
 -- the tally has the order's classes, their W and P, and no dose remains
@@ -26,6 +27,10 @@ pub record SharesOf (o : Order) (t : Tally) (table : List (List ℕ)) (shares : 
 -- refusal 9, as document 01 has it
 abbrev pub nine : TooFast → Answer
 nine r = record { number = 9; place = 0; set = r.set; weight = r.weight; time = r.time }
+
+-- a refusal in numbers, as an answer
+abbrev pub as_numbers : Numbers → Answer
+as_numbers n = record { number = n.number; place = n.place; set = n.set; weight = n.weight; time = n.time }
 
 -- r says whether the order's first class is above the top rate
 pub record AgainstTop (o : Order) (r : Option TooFast) : Type 0 where

@@ -2,6 +2,7 @@
 // active in interval j at k * 47 + j, and nothing stands past the doses and the intervals.
 #![tactic(auto)]
 
+mod numbers; // numbers.rt: a refusal in numbers
 mod sequence; // sequence.rt: which dose is filled first
 mod table; // table.rt: reservations
 
@@ -15,6 +16,7 @@ ghost use Rattle.classes.specs.Phase.{choose, Start, Blank, After, KeptShares, S
 
 use class_rounds::{Class, next_class};
 use measure::{Setting, first_set, size_of};
+pub use numbers::Numbers;
 use order::Order;
 use sequence::by_deadline;
 use std::array;

@@ -6,11 +6,11 @@ mod line; // line.rt: a dose's line in plan bytes
 ghost use Rattle.std.specs.Prelude.{◌≡◌, ◌+◌, min};
 ghost use Rattle.model.specs.Limits.{week};
 ghost use Rattle.model.specs.Answers.{Draws, Moves};
-ghost use Rattle.judge.specs.Verdict.{as_numbers};
+ghost use Rattle.classes.specs.Answer.{as_numbers};
 ghost use Rattle.draw.specs.declared.Refusal.TheVariants.{Plan};
 ghost use Rattle.draw.specs.Drawing.{as_drawn, as_refusal, as_pen};
 
-pub use judge::Numbers;
+use classes::Numbers;
 pub use line::Line;
 use steps::limits::{MOST_BAY, WEEK};
 
@@ -46,21 +46,14 @@ pub struct Pen {
 }
 
 impl Refusal {
-    // A refusal in numbers: "Fields not meant are 0".
+    // In numbers.
     pub fn numbers(self) -> Numbers
         ensures { as_numbers result ≡ as_refusal self }
     {
-        let number = match self {
-            Refusal::Plan(r) => return r.numbers(),
-            Refusal::NoDose => 11,
-            Refusal::NoTick => 12,
-        };
-        Numbers {
-            number,
-            place: 0,
-            set: 0,
-            weight: 0,
-            time: 0,
+        match self {
+            Refusal::Plan(r) => r.numbers(),
+            Refusal::NoDose => Numbers::of(11, 0),
+            Refusal::NoTick => Numbers::of(12, 0),
         }
     }
 }

@@ -12,7 +12,6 @@ use Rattle.order.specs.Held.{number_of, place_of}
 use Rattle.classes.specs.Answer.{nine}
 use Rattle.judge_clauses.specs.declared.Certificate.{Certificate}
 use Rattle.measure.specs.Arrays.{sets_of}
-use Rattle.judge.specs.declared.refusal.Numbers.{Numbers}
 use Rattle.judge.specs.declared.refusal.Refusal.{Refusal}
 use Rattle.judge.specs.declared.refusal.Refusal.TheVariants as is
 
@@ -23,10 +22,6 @@ abbrev pub as_refusal : Refusal → Answer
 as_refusal (is.Order r) = refusal (number_of r) (place_of r)
 as_refusal (is.TooFast f) = nine f
 as_refusal is.Falls = refusal 10 0
-
--- the same in plain numbers
-abbrev pub as_numbers : Numbers → Answer
-as_numbers n = record { number = n.number; place = n.place; set = n.set; weight = n.weight; time = n.time }
 
 -- "0 done", or the refusal
 abbrev pub as_answer : Result (Unit {0}) Refusal → Answer

@@ -19,7 +19,7 @@ use interval::Instants;
 use judge_clauses::{Certificate, rows};
 use order::{Order, read_order};
 use records::RECORD_SIZE;
-pub use refusal::{Numbers, Refusal};
+pub use refusal::Refusal;
 use steps::limits::MOST_BAY;
 
 // What the records say by themselves and of the sets that the slots name.

@@ -1,8 +1,9 @@
 // Why an order is not planned (document 01, refusals 1 to 9; document 02, C-14: 15).
 ghost use Rattle.std.specs.Prelude.{◌≡◌};
+ghost use Rattle.classes.specs.Answer.{as_numbers};
 ghost use Rattle.plan.specs.Answered.{answer_of};
 
-use classes::TooFast;
+use classes::{Numbers, TooFast};
 
 // "1 plan buffer under 47,392 bytes"; what reading the order refuses, 2 to 8 and 15; "9 first class: W × top seconds above P × top grams".
 #[derive(Clone, Copy, PartialEq, Eq)]
@@ -12,55 +13,15 @@ pub enum Refusal {
     TooFast(TooFast),
 }
 
-// The numbers of the documents: "Fields not meant are 0".
 impl Refusal {
-    pub fn number(self) -> u32
-        ensures { result ≡ (answer_of self).number }
+    // In numbers.
+    pub fn numbers(self) -> Numbers
+        ensures { as_numbers result ≡ answer_of self }
     {
         match self {
-            Refusal::NoRoom => 1,
-            Refusal::Order(r) => r.number(),
-            Refusal::TooFast(_) => 9,
-        }
-    }
-
-    // The index of the record at fault.
-    pub fn place(self) -> usize
-        ensures { result ≡ (answer_of self).place }
-    {
-        match self {
-            Refusal::Order(r) => r.place(),
-            Refusal::NoRoom | Refusal::TooFast(_) => 0,
-        }
-    }
-
-    // "the first class as a number with bit i for dose i"
-    pub fn set(self) -> u64
-        ensures { result ≡ (answer_of self).set }
-    {
-        match self {
-            Refusal::TooFast(f) => f.set,
-            Refusal::NoRoom | Refusal::Order(_) => 0,
-        }
-    }
-
-    // Its W.
-    pub fn weight(self) -> u64
-        ensures { result ≡ (answer_of self).weight }
-    {
-        match self {
-            Refusal::TooFast(f) => f.weight,
-            Refusal::NoRoom | Refusal::Order(_) => 0,
-        }
-    }
-
-    // And its P.
-    pub fn time(self) -> u64
-        ensures { result ≡ (answer_of self).time }
-    {
-        match self {
-            Refusal::TooFast(f) => f.time,
-            Refusal::NoRoom | Refusal::Order(_) => 0,
+            Refusal::NoRoom => Numbers::of(1, 0),
+            Refusal::Order(r) => Numbers::of(r.number(), r.place()),
+            Refusal::TooFast(f) => f.numbers(),
         }
     }
 }

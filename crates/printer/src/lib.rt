@@ -24,14 +24,17 @@ impl Program<TEXT_ROOM> for Printer {
         let mut plan = [0; PLAN_ROOM];
         match plan::plan(order, &mut plan) {
             Ok(p) => Ok(lines::print_plan(&plan, p.classes, p.slots, text)),
-            Err(refusal) => Err(lines::print_refusal(
-                u64::from(refusal.number()),
-                refusal.place() as u64,
-                refusal.set(),
-                refusal.weight(),
-                refusal.time(),
-                text,
-            )),
+            Err(refusal) => {
+                let n = refusal.numbers();
+                Err(lines::print_refusal(
+                    u64::from(n.number),
+                    n.place as u64,
+                    n.set,
+                    n.weight,
+                    n.time,
+                    text,
+                ))
+            }
         }
     }
 }
