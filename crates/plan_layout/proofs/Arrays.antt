@@ -79,13 +79,6 @@ module _ (x : Filling) where
       rooms_at s e =
           let filled = x.filled in
           rw (lane_is e) (record {
-            ready = record {
-              heavy = filled.heavy i m;
-              light = filled.light i m;
-              wide = omega (arith, filled.wide j l);
-              week = omega (arith, filled.wide j l, filled.week j l);
-              below = omega (arith, below_at, g.below_is);
-            };
             most = λ k o. filled.most i k j m o l;
             end =
                 omega (

@@ -15,7 +15,8 @@ use Rattle.model.specs.Layout.{Lane, before, behind, cut, lane_slots, line, piec
 use Rattle.model.proofs.Lists.{map_gather, sum_before}
 use Rattle.model.proofs.Wrap.{cut_none, cut_two, cut_uncut}
 use Rattle.plan_layout.specs.declared.Plan.{Plan}
-use Rattle.plan_layout.specs.Laying.{LaneReady, ShareRoom, LaneRoom}
+use Rattle.plan_layout.specs.Ready.{LaneReady}
+use Rattle.plan_layout.specs.Laying.{ShareRoom, LaneRoom}
 use Rattle.plan_layout.specs.Growing.{Grows}
 use Rattle.plan_layout.proofs.Runs.{gather_fits, gather_more, gather_none, grows_more, grows_none, wrote_length}
 
@@ -25,23 +26,21 @@ tick l r s h = omega (arith, r.week, div-le_of_le-mul l.weight {m = s} {n = l.le
 
 -- ---- a share
 
--- its class is ready, and what its numbers are at most
+-- what its numbers are at most
 pub record Small (l : Lane) (a x : ℕ) : Type 0 where
-  pub ready : LaneReady l
   pub units : l.len * l.weight ≤ week * l.weight
   pub some : 0 < l.len * l.weight
   pub fan : a / (l.len * l.weight) ≤ most_fans
   pub low : a % (l.len * l.weight) < l.len * l.weight
   pub share : x ≤ l.len * l.weight
 
-module _ {l : Lane} {k a x r size : ℕ} (h : ShareRoom l k a x r size) where
+module _ {l : Lane} {k a x r size : ℕ} (ready : LaneReady l) (h : ShareRoom l k a x r size) where
   stretch : 0 < l.len * l.weight
-  stretch = mul-pos h.ready.wide h.ready.heavy
+  stretch = mul-pos ready.wide ready.heavy
 
   pub small : Small l a x
   small = record {
-    ready = h.ready;
-    units = mul-le-mul_right l.weight (omega (arith, h.ready.week));
+    units = mul-le-mul_right l.weight (omega (arith, ready.week));
     some = stretch;
     fan = div-le_of_le-mul (l.len * l.weight) {m = a} {n = 8} (omega (arith, h.end));
     low = mod-lt a stretch;
@@ -104,7 +103,6 @@ module _ (l : Lane) (x : ℕ → ℕ) where
   module _ {n : ℕ} {p q : Plan} {a k : ℕ} (h : LaneRoom l x n p.records (length p.bytes.now)) (g : Kept p q a k) where
     pub room_at : {s : ℕ} → k < n → s ≡ x k → ShareRoom l k a s q.records (length q.bytes.now)
     room_at f e = rw (e, g.sum_is) (record {
-      ready = h.ready;
       most = h.most k f;
       end = omega (arith, h.end, sum_before n x k f);
       room =
@@ -120,15 +118,15 @@ module _ (l : Lane) (x : ℕ → ℕ) where
     })
 
     -- no sum of shares is too large for the code
-    pub sum_at : {s : ℕ} → k < n → s ≡ x k → a + s ≤ most_fans * (week * most_weight)
-    sum_at q e =
+    pub sum_at : {s : ℕ} → LaneReady l → k < n → s ≡ x k → a + s ≤ most_fans * (week * most_weight)
+    sum_at ready q e =
         omega (
           arith,
           g.sum_is,
           h.end,
           sum_before n x k q,
-          mul-le-mul_right {m = l.len} {n = week} l.weight (omega (arith, h.ready.week)),
-          h.ready.light,
+          mul-le-mul_right {m = l.len} {n = week} l.weight (omega (arith, ready.week)),
+          ready.light,
         )
 
     -- the loop has come to the end

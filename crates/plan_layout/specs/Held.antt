@@ -4,7 +4,7 @@ use Rattle.model.specs.Limits.{most_intervals}
 use Rattle.model.specs.Sets.{on}
 use Rattle.model.specs.Layout as model
 use Rattle.measure.specs.Arrays.{sets_of}
-use Rattle.plan_layout.specs.declared.Lane.{Lane}
+use Rattle.plan_layout.specs.declared.lane.Lane.{Lane}
 use Rattle.plan_layout.specs.declared.Tables.{Tables}
 
 abbrev pub as_lane : Lane → model.Lane

@@ -15,24 +15,14 @@ pub record Wrote {A : Type 0} (kind : A → PlanRecord) (l : List A) (b : List �
   pub next : r' ≡ r + length l
   pub now : b' ≡ written b (record_size * r) (records_bytes (map kind l))
 
--- a class in an interval of the week, on fans up to the eighth
-pub record LaneReady (l : Lane) : Type 0 where
-  pub heavy : 0 < l.weight
-  pub light : l.weight ≤ most_weight
-  pub wide : 0 < l.len
-  pub week : l.start + l.len ≤ week
-  pub below : l.below ≤ most_fans
-
 -- a share x of dose k at a, of a class that has at most 8 stretches, and room for its records from record r on
 pub record ShareRoom (l : Lane) (k a x r size : ℕ) : Type 0 where
-  pub ready : LaneReady l
   pub most : x ≤ l.len * l.weight
   pub end : a + x ≤ most_fans * (l.len * l.weight)
   pub room : record_size * (r + length (cut (l.len * l.weight) k a x)) ≤ size
 
 -- the same for the shares of n doses
 pub record LaneRoom (l : Lane) (x : ℕ → ℕ) (n r size : ℕ) : Type 0 where
-  pub ready : LaneReady l
   pub most : (k : ℕ) → k < n → x k ≤ l.len * l.weight
   pub end : sum n x ≤ most_fans * (l.len * l.weight)
   pub room : record_size * (r + length (lane_slots l x n)) ≤ size

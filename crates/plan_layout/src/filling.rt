@@ -1,5 +1,6 @@
 // What slots are laid from.
-ghost use Rattle.std.specs.Prelude.{◌≡◌, ◌<◌};
+ghost use Rattle.std.specs.Prelude.{◌≡◌, ◌<◌, ◌≤◌};
+ghost use Rattle.model.specs.Limits.{most_fans};
 ghost use Rattle.plan_layout.specs.Held.{as_lane, share_at, lane_at};
 ghost use Rattle.plan_layout.specs.Laying.{Filled};
 
@@ -37,6 +38,7 @@ impl Filling<'_> {
     pub(crate) fn lane(&self, i: usize, j: usize, below: u32) -> Lane
         requires class { i < self.now.tables.now.classes }
         requires interval { j < self.now.tables.now.intervals }
+        requires fans { below ≤ most_fans }
         ensures { as_lane result ≡ lane_at self.now.tables.now i j below }
     {
         let t = self.tables;

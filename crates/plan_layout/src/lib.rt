@@ -2,29 +2,20 @@
 #![tactic(auto)]
 
 mod filling; // filling.rt: what slots are laid from
+mod lane; // lane.rt: a class in an interval
 
 ghost use Rattle.std.specs.Prelude.{◌≡◌, map, [], ◌∷◌, ◌+◌, ◌*◌, ◌<◌, ◌≤◌, length};
 ghost use Rattle.model.specs.Plans.{slot_record};
 ghost use Rattle.model.specs.Layout.{cut, piece_slot, lane_slots, interval_slots, table_slots};
 ghost use Rattle.records.specs.Held.{as_slot};
 ghost use Rattle.plan_layout.specs.Held.{as_lane, share_at};
-ghost use Rattle.plan_layout.specs.Laying.{LaneReady, ShareRoom, LaneRoom};
+ghost use Rattle.plan_layout.specs.Laying.{ShareRoom, LaneRoom};
 ghost use Rattle.plan_layout.specs.Growing.{table_in, Grows, Fits};
 
 pub use filling::Filling;
+pub use lane::Lane;
 use records::{RECORD_SIZE, Slot, put_slot};
 use steps::limits::{MOST_DOSES, MOST_INSTANTS};
-
-// One class in one interval: where it starts and how long it is, the class's W, P and number, and the fans below its own.
-#[derive(Clone, Copy)]
-pub struct Lane {
-    pub start: u32,
-    pub len: u32,
-    pub weight: u32,
-    pub time: u32,
-    pub class: u32,
-    pub below: u32,
-}
 
 // What shares are laid by: how many doses, classes and intervals; the instants that bound the intervals; W and P of each class; the number of each
 // dose's class.
@@ -46,26 +37,6 @@ pub struct Plan<'a> {
     pub records: usize,
 }
 
-// The slot from unit low up to unit high of a fan's stretch: "A moment is a tick plus part/W, part below W."
-#[tactic(auto, using(crate::proofs::Shares::tick), unfolding(model::specs::Layout::piece_slot))]
-fn slot_of(l: Lane, dose: u32, fan: u64, low: u64, high: u64) -> Slot
-    requires { LaneReady (as_lane l) × (fan ≤ 9) × (low ≤ l.len * l.weight) × (high ≤ l.len * l.weight) }
-    ensures { as_slot result ≡ piece_slot (as_lane l) (record { fan = fan; dose = dose; low = low; high = high }) }
-{
-    let w = l.weight as u64;
-    Slot {
-        fan: l.below + fan as u32 + 1,
-        dose,
-        start_tick: l.start + (low / w) as u32,
-        start_part: (low % w) as u32,
-        end_tick: l.start + (high / w) as u32,
-        end_part: (high % w) as u32,
-        weight: l.weight,
-        time: l.time,
-        class: l.class,
-    }
-}
-
 impl Plan<'_> {
     // One S record.
     fn put(&mut self, s: Slot)
@@ -77,9 +48,9 @@ impl Plan<'_> {
     }
 
     // The records of one share, x units laid from unit a of the line on: "A cut share gives two slots. No slot has length zero".
-    fn lay_share(&mut self, l: Lane, dose: u32, a: u64, x: u64)
-        requires { ShareRoom (as_lane l) dose a x self.old.records (length self.old.bytes.now) }
-        ensures { Grows slot_record (map (piece_slot (as_lane l)) (cut (l.len * l.weight) dose a x)) self.old self.new }
+    fn lay_share(&mut self, l: &Lane, dose: u32, a: u64, x: u64)
+        requires { ShareRoom (as_lane l.now) dose a x self.old.records (length self.old.bytes.now) }
+        ensures { Grows slot_record (map (piece_slot (as_lane l.now)) (cut (l.now.len * l.now.weight) dose a x)) self.old self.new }
     {
         if x == 0 {
             return;
@@ -88,19 +59,19 @@ impl Plan<'_> {
         let fan = a / c;
         let low = a % c;
         if low + x <= c {
-            self.put(slot_of(l, dose, fan, low, low + x));
+            self.put(l.slot(dose, fan, low, low + x));
         } else {
-            self.put(slot_of(l, dose, fan, low, c));
-            self.put(slot_of(l, dose, fan + 1, 0, low + x - c));
+            self.put(l.slot(dose, fan, low, c));
+            self.put(l.slot(dose, fan + 1, 0, low + x - c));
         }
     }
 
     // The records of class i in interval j: "laid end to end in dose order".
-    fn lay_class(&mut self, x: &Filling, l: Lane, i: usize, j: usize)
+    fn lay_class(&mut self, x: &Filling, l: &Lane, i: usize, j: usize)
         requires class { i < x.now.tables.now.classes }
         requires interval { j < x.now.tables.now.intervals }
-        requires room { LaneRoom (as_lane l) (λ k. share_at x.now.tables.now x.now.shares.now i k j) x.now.tables.now.doses self.old.records (length self.old.bytes.now) }
-        ensures { Grows slot_record (lane_slots (as_lane l) (λ k. share_at x.now.tables.now x.now.shares.now i k j) x.now.tables.now.doses) self.old self.new }
+        requires room { LaneRoom (as_lane l.now) (λ k. share_at x.now.tables.now x.now.shares.now i k j) x.now.tables.now.doses self.old.records (length self.old.bytes.now) }
+        ensures { Grows slot_record (lane_slots (as_lane l.now) (λ k. share_at x.now.tables.now x.now.shares.now i k j) x.now.tables.now.doses) self.old self.new }
     {
         let mut a: u64 = 0;
         for k in 0..x.tables.doses {
@@ -118,7 +89,7 @@ impl Plan<'_> {
     {
         let mut below: u32 = 0;
         for i in 0..x.tables.classes {
-            self.lay_class(x, x.lane(i, j, below), i, j);
+            self.lay_class(x, &x.lane(i, j, below), i, j);
             below += u32::from(x.reserved[i][j]);
         }
     }

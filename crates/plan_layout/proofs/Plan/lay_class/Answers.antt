@@ -10,7 +10,7 @@ pub lay_share-requires : goal.lay_share-requires
 lay_share-requires c = room_at _ _ c.requires.room c.loop-k.invariant (omega arith) c.share-share.ensures
 
 pub overflow_add-a : goal.overflow_add-a
-overflow_add-a c = omega (arith, sum_at _ _ c.requires.room c.loop-k.invariant (omega arith) c.share-share.ensures)
+overflow_add-a c = omega (arith, sum_at _ _ c.requires.room c.loop-k.invariant c.args.l.now.ready (omega arith) c.share-share.ensures)
 
 pub loop-k-preserved : goal.loop-k-preserved
 loop-k-preserved c = kept_more _ _ c.loop-k.invariant c.share-share.ensures c.lay_share.ensures

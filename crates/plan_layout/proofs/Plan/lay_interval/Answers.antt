@@ -16,5 +16,8 @@ overflow_add-below c = omega (arith, below_at _ c.loop-i.invariant c.requires.in
 pub loop-i-preserved : goal.loop-i-preserved
 loop-i-preserved c = rising_more _ c.loop-i.invariant c.lane.ensures c.lay_class.ensures c.from-below.ensures
 
+pub lane-requires-clause-fans : goal.lane-requires-clause-fans
+lane-requires-clause-fans c = omega (arith, below_at _ c.loop-i.invariant c.requires.interval (omega arith))
+
 pub returns : goal.returns
 returns c = interval_all _ c.loop-i.invariant (omega arith)

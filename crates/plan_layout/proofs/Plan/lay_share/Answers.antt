@@ -8,25 +8,25 @@ use Rattle.plan_layout.proofs.Plan.lay_share.Goals as goal
 pub returns-then-x-eq0 : goal.returns-then-x-eq0
 returns-then-x-eq0 c =
     let A = c.args in
-    laid_none (as_lane A.l) A.dose A.a A.x c.if-x-eq0.true
+    laid_none (as_lane A.l.now) A.dose A.a A.x c.if-x-eq0.true
 
 pub put-requires : goal.put-requires
-put-requires c = room_one c.requires c.if-x-eq0.false c.if-low-x.true
+put-requires c = room_one c.args.l.now.ready c.requires c.if-x-eq0.false c.if-low-x.true
 
 pub put-requires-else-low-x : goal.put-requires-else-low-x
-put-requires-else-low-x c = omega (arith, room_two c.requires c.if-x-eq0.false c.if-low-x.false)
+put-requires-else-low-x c = omega (arith, room_two c.args.l.now.ready c.requires c.if-x-eq0.false c.if-low-x.false)
 
 pub put-requires-else-low-x-2 : goal.put-requires-else-low-x-2
 put-requires-else-low-x-2 c =
-    fits_behind 2 1 (room_two c.requires c.if-x-eq0.false c.if-low-x.false) c.put-else-low-x.ensures (omega arith)
+    fits_behind 2 1 (room_two c.args.l.now.ready c.requires c.if-x-eq0.false c.if-low-x.false) c.put-else-low-x.ensures (omega arith)
 
 pub returns-then-low-x : goal.returns-then-low-x
 returns-then-low-x c =
     let A = c.args in
-    laid_one (as_lane A.l) A.dose A.a A.x c.if-x-eq0.false c.if-low-x.true c.slot_of.ensures c.put.ensures
+    laid_one (as_lane A.l.now) A.dose A.a A.x c.if-x-eq0.false c.if-low-x.true c.slot.ensures c.put.ensures
 
 pub returns-else-low-x : goal.returns-else-low-x
 returns-else-low-x c =
     let A = c.args in
-    laid_two (as_lane A.l) A.dose A.a A.x c.if-x-eq0.false c.if-low-x.false
-    c.slot_of-else-low-x.ensures c.slot_of-else-low-x-2.ensures c.put-else-low-x.ensures c.put-else-low-x-2.ensures
+    laid_two (as_lane A.l.now) A.dose A.a A.x c.if-x-eq0.false c.if-low-x.false
+    c.slot-else-low-x.ensures c.slot-else-low-x-2.ensures c.put-else-low-x.ensures c.put-else-low-x-2.ensures
