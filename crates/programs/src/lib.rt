@@ -48,6 +48,8 @@ pub fn read_input<R: Read>(input: &mut R, buffer: &mut [u8]) -> Result<usize, Un
     ensures whole { IfOk result (λ n. IfSome (R.remaining input.old) (λ xs. take n buffer.new ≡ take (length buffer.new) xs)) }
 {
     let mut at = 0;
+
+    // `at` goes on by what came, so that no range counts it.
     while at < buffer.len() {
         match input.read(&mut buffer[at..]) {
             Ok(0) => return Ok(at),
@@ -71,7 +73,8 @@ pub trait Program<const ROOM: usize> {
     // What a text says of an input, and whether it is no refusal.
     ghost says: { List ℕ → List ℕ → Bool → Type 0 };
 
-    // Puts the text in front of the buffer and gives back its length: an `Err` where it is that of a refusal.
+    // Puts the text in front of the buffer and gives back its length: an `Err` where it is that of a refusal. That the buffer is as long as it was is
+    // said, since a caller of a trait's method does not know it by the array's type.
     fn answer(input: &[u8], text: &mut [u8; ROOM]) -> Result<usize, usize>
         ensures puts { Puts (says input.now) text.new result }
         ensures same_length { length text.new ≡ ROOM };
