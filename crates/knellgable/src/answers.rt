@@ -1,15 +1,16 @@
 // What the library's functions answer, as the structs that C reads: here alone an answer becomes plain numbers, "fields not meant are 0".
 ghost use Rattle.std.specs.Prelude.{◌≡◌};
 ghost use Rattle.plan.specs.Answered as planning;
-ghost use Rattle.judge.specs.Verdict.{as_answer, as_numbers};
+ghost use Rattle.classes.specs.Answer.{as_numbers};
+ghost use Rattle.judge.specs.Verdict.{as_answer};
 ghost use Rattle.draw.specs.Drawing.{as_state, as_point, as_drawn};
 ghost use Rattle.log_beside.specs.Laying as laying;
 ghost use Rattle.season.specs.Held as adding;
 ghost use Rattle.knellgable.specs.Exported.{as_planned, as_judged, as_laid, as_added_up, state_number, state_fan, DrawnNumbers};
 
 use crate::{AddedUp, Drawn, Judged, Laid, Planned};
+use classes::Numbers;
 use draw::{Point, State};
-use judge::Numbers;
 use season::{NoStream, Season};
 use steps::limits::ORDER_NUMBERS;
 
@@ -36,15 +37,18 @@ impl From<Result<plan::Planned, plan::Refusal>> for Planned {
                 classes: p.classes,
                 slots: p.slots,
             },
-            Err(r) => Planned {
-                number: r.number(),
-                place: r.place(),
-                set: r.set(),
-                weight: r.weight(),
-                time: r.time(),
-                classes: 0,
-                slots: 0,
-            },
+            Err(r) => {
+                let n = r.numbers();
+                Planned {
+                    number: n.number,
+                    place: n.place,
+                    set: n.set,
+                    weight: n.weight,
+                    time: n.time,
+                    classes: 0,
+                    slots: 0,
+                }
+            }
         }
     }
 }

@@ -12,4 +12,4 @@ returns-in-Ok-clause-puts c = says_plan refl c.in-Ok.ensures (omega arith) refl 
 pub returns-in-Err-clause-puts : goal.returns-in-Err-clause-puts
 returns-in-Err-clause-puts c =
     says_refusal refl c.in-Err.ensures (omega arith) (some_number c.in-Err.refusal)
-    (rw (c.from.ensures, c.number.ensures, c.place.ensures, c.set.ensures, c.weight.ensures, c.time.ensures) at c.print_refusal.ensures)
+    (rw (c.from.ensures) at c.print_refusal.ensures)
