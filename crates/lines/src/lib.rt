@@ -140,8 +140,8 @@ pub fn print_plan(plan: &[u8], classes: usize, slots: usize, out: &mut [u8]) -> 
     text.end
 }
 
-// The text of a refusal: "`refused` number place, and for 9 also the set, W, P". Gives back its length. The numbers come one by one: each crate that
-// refuses has a type of its own for why.
+// The text of a refusal: "`refused` number place, and for 9 also the set, W, P". Gives back its length. The numbers come one by one, here and in
+// `put_refused`: this crate knows no crate that has them in one value.
 pub fn print_refusal(
     number: u64,
     place: u64,

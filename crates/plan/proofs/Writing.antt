@@ -10,14 +10,14 @@ use Rattle.model.specs.Records.{record_size}
 use Rattle.records.specs.Written.{written}
 use Rattle.records.proofs.Laws.{join}
 use Rattle.model.specs.Lists.{gather}
-use Rattle.model.specs.Plans.{Class, Slot, class_record, plan_of, plan_record_bytes, records_bytes, slot_record}
+use Rattle.model.specs.Plans.{Class, Slot, class_record, plan_of, records_bytes, slot_record}
 use Rattle.model.specs.Answers.{overwritten}
 use Rattle.model.proofs.Lists.{length_singles}
 use Rattle.model.proofs.Plans.{length_plan, length_records, records_append}
 use Rattle.plan_layout.specs.declared.Tables.{Tables}
 use Rattle.plan_layout.specs.declared.Plan.{Plan}
 use Rattle.plan_layout.specs.Growing.{Fits, Grows}
-use Rattle.plan_layout.proofs.Runs.{gather_more, gather_room, wrote_one}
+use Rattle.plan_layout.proofs.Runs.{gather_more, gather_room}
 use Rattle.plan.specs.Held.{class_from, classes_from}
 
 abbrev one : Tables → ℕ → List Class
@@ -25,10 +25,9 @@ one t i = class_from t i ∷ []
 
 module _ (t : Tables) {p : Plan} where
   -- one class more
-  pub classes_more : {q r : Plan} (i : ℕ) {c : Class} → Grows class_record (gather i (one t)) p q → c ≡ class_from t i → r.bytes.ghost_name ≡ q.bytes.ghost_name
-      → r.bytes.now ≡ written q.bytes.now (record_size * q.records) (plan_record_bytes (class_record c)) → r.records ≡ q.records + 1
+  pub classes_more : {q r : Plan} (i : ℕ) {c : Class} → Grows class_record (gather i (one t)) p q → c ≡ class_from t i → Grows class_record (c ∷ []) q r
       → Grows class_record (gather (i + 1) (one t)) p r
-  classes_more i h e same f n = gather_more (one t) i h (record { same_reference = same; wrote = rw n (wrote_one e f) })
+  classes_more i h e g = gather_more (one t) i h (rw (← e) g)
 
   -- the loop has come to the end
   pub classes_all : {q : Plan} (i : ℕ) → Grows class_record (gather i (one t)) p q → i ≡ t.classes → Grows class_record (classes_from t) p q

@@ -14,6 +14,7 @@ ghost use Rattle.classes.specs.Answer.{ClassesOf, SharesOf};
 ghost use Rattle.plan.specs.Answered.{as_planned, planned, PlansOrder, WritesOrder};
 
 use classes::Tally;
+pub use classes::TooFast;
 use order::Order;
 use plan_layout::Filling;
 pub use refusal::Refusal;

@@ -11,7 +11,7 @@ ghost use Rattle.plan.specs.Held.{class_from, classes_from, bytes_from};
 
 use measure::{set_of, size_of};
 use plan_layout::{Filling, Plan, Tables};
-use records::{Class, RECORD_SIZE};
+use records::Class;
 
 // "1 class number from 1; 2-3 doses in it; 4-7 W; 8-11 P"
 fn class_from(t: &Tables, i: usize) -> Class
@@ -32,8 +32,7 @@ fn put_classes(plan: &mut Plan, t: &Tables)
     ensures { Grows class_record (classes_from t.now) plan.old plan.new }
 {
     for i in 0..t.classes {
-        records::put_class(plan.bytes, RECORD_SIZE * plan.records, class_from(t, i));
-        plan.records += 1;
+        plan.put_class(class_from(t, i));
     }
 }
 

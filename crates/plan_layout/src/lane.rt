@@ -27,7 +27,7 @@ impl Lane {
         requires { (fan ≤ 9) × (low ≤ self.now.len * self.now.weight) × (high ≤ self.now.len * self.now.weight) }
         ensures { as_slot result ≡ piece_slot (as_lane self.now) (record { fan = fan; dose = dose; low = low; high = high }) }
     {
-        let w = self.weight as u64;
+        let w = u64::from(self.weight);
         Slot {
             fan: self.below + fan as u32 + 1,
             dose,

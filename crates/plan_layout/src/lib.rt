@@ -5,20 +5,21 @@ mod filling; // filling.rt: what slots are laid from
 mod lane; // lane.rt: a class in an interval
 
 ghost use Rattle.std.specs.Prelude.{◌≡◌, map, [], ◌∷◌, ◌+◌, ◌*◌, ◌<◌, ◌≤◌, length};
-ghost use Rattle.model.specs.Plans.{slot_record};
+ghost use Rattle.model.specs.Plans.{class_record, slot_record};
 ghost use Rattle.model.specs.Layout.{cut, piece_slot, lane_slots, interval_slots, table_slots};
-ghost use Rattle.records.specs.Held.{as_slot};
+ghost use Rattle.records.specs.Held.{as_class, as_slot};
 ghost use Rattle.plan_layout.specs.Held.{as_lane, share_at};
 ghost use Rattle.plan_layout.specs.Laying.{ShareRoom, LaneRoom};
 ghost use Rattle.plan_layout.specs.Growing.{table_in, Grows, Fits};
 
 pub use filling::Filling;
 pub use lane::Lane;
-use records::{RECORD_SIZE, Slot, put_slot};
+use records::{Class, RECORD_SIZE, Slot};
 use steps::limits::{MOST_DOSES, MOST_INSTANTS};
 
 // What shares are laid by: how many doses, classes and intervals; the instants that bound the intervals; W and P of each class; the number of each
-// dose's class.
+// dose's class. The project uses no heap, so the arrays have room for all, and the counts stand beside them, as in the tally of classes that they come
+// from.
 #[derive(Clone, Copy)]
 pub struct Tables {
     pub doses: usize,
@@ -38,12 +39,21 @@ pub struct Plan<'a> {
 }
 
 impl Plan<'_> {
+    // One C record.
+    pub fn put_class(&mut self, c: Class)
+        requires { Fits 1 self.old }
+        ensures { Grows class_record (as_class c ∷ []) self.old self.new }
+    {
+        records::put_class(self.bytes, RECORD_SIZE * self.records, c);
+        self.records += 1;
+    }
+
     // One S record.
-    fn put(&mut self, s: Slot)
+    fn put_slot(&mut self, s: Slot)
         requires { Fits 1 self.old }
         ensures { Grows slot_record (as_slot s ∷ []) self.old self.new }
     {
-        put_slot(self.bytes, RECORD_SIZE * self.records, s);
+        records::put_slot(self.bytes, RECORD_SIZE * self.records, s);
         self.records += 1;
     }
 
@@ -59,10 +69,10 @@ impl Plan<'_> {
         let fan = a / c;
         let low = a % c;
         if low + x <= c {
-            self.put(l.slot(dose, fan, low, low + x));
+            self.put_slot(l.slot(dose, fan, low, low + x));
         } else {
-            self.put(l.slot(dose, fan, low, c));
-            self.put(l.slot(dose, fan + 1, 0, low + x - c));
+            self.put_slot(l.slot(dose, fan, low, c));
+            self.put_slot(l.slot(dose, fan + 1, 0, low + x - c));
         }
     }
 
