@@ -51,7 +51,7 @@ impl Refusal {
         ensures { as_numbers result ≡ as_refusal self }
     {
         match self {
-            Refusal::Plan(r) => r.numbers(),
+            Refusal::Plan(judged) => judged.numbers(),
             Refusal::NoDose => Numbers::of(11, 0),
             Refusal::NoTick => Numbers::of(12, 0),
         }

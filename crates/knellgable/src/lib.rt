@@ -11,6 +11,8 @@ ghost use Rattle.knellgable.specs.Exported.{as_planned, as_judged, as_laid, as_a
 use draw::Pen;
 use steps::limits::ORDER_NUMBERS;
 
+// What the functions answer are flat numbers, since C reads them: it can read no enum, nor a struct that holds one.
+
 // What planning answers: "Fields not meant are 0".
 #[repr(C)]
 #[derive(Clone, Copy)]

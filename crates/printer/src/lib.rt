@@ -39,7 +39,7 @@ impl Program<TEXT_ROOM> for Printer {
     }
 }
 
-// Reads an order, and prints its plan or its refusal.
+// Reads an order, and prints its plan or its refusal. What it shares with `season_main` is `answer_input`; README names both.
 pub fn printer_main<R: Read, W: Write>(input: &mut R, output: &mut W) -> Exit
     ensures { AnswersOrder (R.remaining input.old) (W.contents output.old) (W.contents output.new) result }
 {

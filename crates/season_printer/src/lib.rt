@@ -38,7 +38,7 @@ impl Program<TEXT_ROOM> for Printer {
     }
 }
 
-// Reads a stream, and prints its figures or its refusal.
+// Reads a stream, and prints its figures or its refusal. What it shares with `printer_main` is `answer_input`; README names both.
 pub fn season_main<R: Read, W: Write>(input: &mut R, output: &mut W) -> Exit
     ensures { AnswersStream (R.remaining input.old) (W.contents output.old) (W.contents output.new) result }
 {
