@@ -38,13 +38,13 @@ impl From<Result<plan::Planned, plan::Refusal>> for Planned {
                 slots: p.slots,
             },
             Err(r) => {
-                let n = r.numbers();
+                let refusal = r.numbers();
                 Planned {
-                    number: n.number,
-                    place: n.place,
-                    set: n.set,
-                    weight: n.weight,
-                    time: n.time,
+                    number: refusal.number,
+                    place: refusal.place,
+                    set: refusal.set,
+                    weight: refusal.weight,
+                    time: refusal.time,
                     classes: 0,
                     slots: 0,
                 }
