@@ -81,9 +81,9 @@ impl Tally {
     }
 
     // The tally after one class more.
-    pub fn after(&self, class: &Class, doses: usize) -> Self
-        requires { (self.now.class < most_doses) × (self.now.classed ≤ most_doses) × (doses ≤ most_doses) }
-        ensures { After doses class.now.members class.now.weight class.now.time self.now result }
+    pub fn after(self, class: &Class, doses: usize) -> Self
+        requires { (self.class < most_doses) × (self.classed ≤ most_doses) × (doses ≤ most_doses) }
+        ensures { After doses class.now.members class.now.weight class.now.time self result }
     {
         let number = self.class as u32 + 1;
         let mut weight = self.weight;
@@ -107,10 +107,10 @@ fn phase(
     table: &mut [[u8; MOST_INTERVALS]; MOST_DOSES],
     setting: &Setting,
     sequence: &[usize; MOST_DOSES],
-    tally: &Tally,
+    tally: Tally,
 ) -> Tally
-    requires { SoFar (as_setting setting.now) (λ j. setting.now.order.fans) tally.now table.old shares.old × (tally.now.classed < setting.now.order.count) }
-    ensures { SoFar (as_setting setting.now) (λ j. setting.now.order.fans) result table.new shares.new × (tally.now.classed < result.classed) }
+    requires { SoFar (as_setting setting.now) (λ j. setting.now.order.fans) tally table.old shares.old × (tally.classed < setting.now.order.count) }
+    ensures { SoFar (as_setting setting.now) (λ j. setting.now.order.fans) result table.new shares.new × (tally.classed < result.classed) }
 {
     let mut x = [0u64; CELLS];
     let free = free_fans(table, u64::from(setting.order.fans), tally.class);
@@ -132,7 +132,7 @@ fn phases(
 {
     let mut tally = Tally::start(setting.order.count);
     while tally.classed < setting.order.count as u64 {
-        tally = phase(shares, table, setting, sequence, &tally);
+        tally = phase(shares, table, setting, sequence, tally);
     }
     tally
 }
