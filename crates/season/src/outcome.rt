@@ -24,7 +24,8 @@ impl Rate {
     // "0 and 1 if there is none"
     pub(crate) const NONE: Rate = Rate { weight: 0, time: 1 };
 
-    // "the greatest first-class W and P, the earliest on a tie": the later one only if it is above, by exact products.
+    // "the greatest first-class W and P, the earliest on a tie": the later one only if it is above, by exact products. No `Ord`: 1/2 and 2/4 tie and
+    // are not equal.
     pub(crate) fn greater(self, later: Rate) -> Rate
         ensures { as_rate result ≡ season.greater (as_rate self) (as_rate later) }
     {
@@ -43,7 +44,8 @@ pub struct Accepted {
     pub first: Rate,
 }
 
-// An order that is refused: by its reading, or since its first class is above the top rate.
+// An order that is refused: by its reading, or since its first class is above the top rate. That the number has a count (`OutcomeFits`) is a clause
+// and no ghost field, which an enum has none of: of all that `order::Refusal` may say, reading with every bay open says 2 to 8.
 #[derive(Clone, Copy)]
 pub enum Refused {
     Order(order::Refusal),
