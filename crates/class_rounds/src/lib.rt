@@ -2,7 +2,7 @@
 #![tactic(auto)]
 
 ghost use Rattle.std.specs.Prelude.{◌≡◌, false, ◌&&◌, ℕ, ◌<◌, ◌≤◌, ltb, get_or};
-ghost use Rattle.model.specs.Limits.{most_weight, most_doses, most_fan_time, most_intervals};
+ghost use Rattle.model.specs.Limits.{most_weight, most_doses};
 ghost use Rattle.model.specs.Sets.{Nonempty};
 ghost use Rattle.measure.specs.Arrays.{set_of, row_of, Below};
 ghost use Rattle.measure.specs.Held.{as_setting};

@@ -44,11 +44,6 @@ no_zero_in_front (suc places) v p h =
     go true e ih = rw e (omega arith)
     go false e ih = rw e (front (decimal places (v / 10)) ((digit_zero + v % 10) ∷ []) (ih (omega (arith, ltb-false v 10 e))))
 
--- 0 is one digit
-pub zero_is : decimal 20 0 ≡ digit_zero ∷ []
-unfolding decimal
-zero_is = refl
-
 -- every byte of a number is a digit
 pub all_digits : (places v : ℕ) → All (λ d. (digit_zero ≤ d) × (d < 58)) (decimal places v)
 unfolding decimal

@@ -1,17 +1,12 @@
 -- A set as a number, bit by bit. Assumes nothing.
 use mathlib.Core.Path.{◌≡◌, sym, ap, ◌∙◌}
-use Prim.Native.Nat.{ℕ, ◌+◌, ◌*◌, ◌^◌, ◌<◌, ◌≤◌}
-use native.Mathlib.Nat.{pow-suc, pow-le-pow_right}
+use Prim.Native.Nat.{ℕ, ◌+◌, ◌*◌, ◌^◌, ◌<◌}
+use native.Mathlib.Nat.{pow-suc}
 use native.Mathlib.Numerals.{add-one}
 use native.Mathlib.Omega.{arith}
-use Rattle.model.specs.Limits.{most_doses}
 use Rattle.model.specs.Sets.{on, weight, Doses}
 use Rattle.steps.proofs.Tests.{on_most}
 use Rattle.steps.proofs.Loops.{sum_next}
-
--- the bit of dose k
-pub bit_most : (k : ℕ) → k ≤ most_doses → 2 ^ k ≤ 16777216
-bit_most k h = pow-le-pow_right {n = 2} (omega arith) h
 
 -- one bit more
 pub bits_next : (k s bit v : ℕ) (A : Doses) → s ≡ weight k (λ i. 2 ^ i) A → bit ≡ 2 ^ k → s < bit → v ≡ on (A k) bit
