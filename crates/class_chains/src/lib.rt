@@ -91,9 +91,9 @@ impl Fill<'_> {
     }
 
     // "a chain goes from a dose to an interval and from an interval back to a dose": for dose d, up to `want` more, "leaving a dose by an
-    // interval where its share is below L × W". What is less than `least` does not count: thresholds that fall keep the chains few. Gives what
-    // was pushed along the chain, or 0 where there is none (no Option: callers add it, and a promise speaks of a 0 as of any number); the stations
-    // seen on the way are marked.
+    // interval where its share is below L × W". What is less than `least`, a number from 1 on that is reckoned with (so no NonZero), does not
+    // count: thresholds that fall keep the chains few. Gives what was pushed along the chain, or 0 where there is none (no Option: callers add
+    // it, and a promise speaks of a 0 as of any number); the stations seen on the way are marked.
     #[cycle(from_dose_from_interval)]
     pub fn from_dose(
         &mut self,

@@ -65,7 +65,7 @@ pub fn size_of(doses: usize, set: &[bool; MOST_DOSES]) -> u64
     sum
 }
 
-// The active doses so far, interval by interval, with dose k more.
+// The active doses so far, interval by interval, with dose k more. Not by `interval::active`: the dose is read once for all intervals.
 fn count_dose(counts: &mut [u64; MOST_INTERVALS], o: &Order, s: &Instants, k: usize)
     requires { (k < most_doses) × (s.now.count ≤ most_instants) × ((j : ℕ) → j < intervals_of s.now → get_or counts.old j 0 < most_doses) }
     ensures { (j : ℕ) → j < intervals_of s.now → get_or counts.new j 0 ≡ get_or counts.old j 0 + sets.on (active_in o.now s.now k j) 1 }

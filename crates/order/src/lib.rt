@@ -28,7 +28,7 @@ pub enum Entry {
 
 // "exactly one F, anywhere among up to 24 D": the doses stand at the front, zeros behind the last. The rest is in seconds. The project uses no heap,
 // so the array has room for all, and its count stands beside it. That the count fits is asked where it is needed and no invariant: `dose` and
-// `measure::active_in_order` answer for any order.
+// `measure::active_in_order` answer for any order. So it is with what else an order that was read keeps (`Fit`).
 #[derive(Clone, Copy)]
 pub struct Order {
     pub fans: u32,

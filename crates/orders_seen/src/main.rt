@@ -73,6 +73,7 @@ fn show_front(rt: &impl Print, bytes: &[u8], len: usize) -> io::Result<()> {
     Ok(())
 }
 
+// Here and below the numbers of a record stand side by side, as rows of a table: with the fields named at each call they would be no plainer.
 fn put_fans_by(b: &mut [u8], at: usize, rule: u32, fans: u32, grams: u32, seconds: u32)
     requires { at + 32 ≤ length b.old }
 {

@@ -9,7 +9,8 @@ use plan_layout::Tables;
 use std::array;
 use steps::limits::MOST_DOSES;
 
-// W and P are at most 24 × 1,000,000 and 8 × 604,800: numbers of four bytes.
+// W and P are at most 24 × 1,000,000 and 8 × 604,800: numbers of four bytes. The remainder, which changes neither, spares a clause that says so; `TryFrom`
+// would bring an error that can't come.
 fn narrow(wide: &[u64; MOST_DOSES]) -> [u32; MOST_DOSES]
     ensures { (i : ℕ) → i < most_doses → get_or result i 0 ≡ get_or wide.now i 0 % 4294967296 }
 {

@@ -65,7 +65,7 @@ impl Plan<'_> {
         if x == 0 {
             return;
         }
-        let c = (l.len as u64) * (l.weight as u64);
+        let c = (l.len as u64) * (l.weight as u64); // not `product`: the laws of a share speak of these two factors
         let fan = a / c;
         let low = a % c;
         if low + x <= c {

@@ -42,7 +42,7 @@ fn put_dose(b: &mut [u8], at: usize, bay: u32, deadline: u32, grams: u32)
     records::put_dose(b, at, d);
 }
 
-// A slot of a class, from one tick to another.
+// A slot of a class, from one tick to another. Its numbers stand side by side, as rows of a table.
 fn put_slot(b: &mut [u8], at: usize, fan: u32, dose: u32, start: u32, end: u32, c: Class)
     requires { at + 32 ≤ length b.old }
 {

@@ -17,5 +17,5 @@ pub use plan_records::{
     starts,
 };
 
-// "All records are 32 bytes".
+// "All records are 32 bytes". A record is lent as the part of some bytes that holds it, and not as an array of 32: that takes a conversion that can fail.
 pub const RECORD_SIZE: usize = 32;

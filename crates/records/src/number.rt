@@ -23,7 +23,8 @@ pub fn blank(s: &[u8], from: usize, count: usize) -> bool
     s[from..from + count].iter().all(|x| *x == 0)
 }
 
-// Writes a number into the N bytes from a place on; no other byte changes.
+// Writes a number into the N bytes from a place on; no other byte changes. Writers take the buffer and a place, not the part: what they promise is of
+// the whole buffer.
 pub fn put<const N: usize>(b: &mut [u8], at: usize, v: u32)
     requires { (N ≤ 4) × (at + N ≤ length b.old) }
     ensures { b.new ≡ written b.old at (number_bytes N v) }

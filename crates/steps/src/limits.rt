@@ -1,4 +1,5 @@
-// Limits (documents 01 and 02), by the names of the definitions (specs/Limits of model).
+// Limits (documents 01 and 02), by the names of the definitions (specs/Limits of model). That an index is below its limit is asked where an array is
+// read, as the language asks it: a type for it would be taken apart at every array.
 pub const MOST_FANS: u32 = 8;
 
 pub const MOST_TOP: u32 = 1000000;
