@@ -37,7 +37,7 @@ fn keep_shares(shares: &mut [u64; CELLS], x: &[u64; CELLS], members: &[bool; MOS
 
 // The phases so far: "remaining doses, class number and counts", with the class number of each dose (0: none yet) and W and P of
 // each class. Class numbers are as records have them, from 1. The project uses no heap, so the arrays have room for all classes, and their count
-// stands beside them.
+// stands beside them. W and P have an array each, and no struct of both: what is added up over the classes is the one or the other, as a slice.
 #[derive(Clone, Copy)]
 pub struct Tally {
     pub remaining: [bool; MOST_DOSES],

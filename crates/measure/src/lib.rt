@@ -109,7 +109,8 @@ pub fn open_fans(
     reserved
 }
 
-// "P(A) its open fan time": "the sum over intervals of length × the smaller of" the two.
+// "P(A) its open fan time": "the sum over intervals of length × the smaller of" the two. That no interval reserves more than 24 is asked here and where
+// such a row is used, and no type says it: it would be taken apart at every interval.
 pub fn fan_time(s: &Instants, reserved: &[u64; MOST_INTERVALS]) -> u64
     requires { (s.now.count ≤ most_instants) × Below most_doses reserved.now }
     ensures { result ≡ sum (intervals_of s.now) (λ j. span_in s.now j * get_or reserved.now j 0) }
