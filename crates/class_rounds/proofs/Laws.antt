@@ -1,16 +1,16 @@
 -- Laws of the arrays that are filled for a candidate. Assumes nothing.
-use mathlib.Core.Bool.{Bool, true, false, ◌&&◌}
+use mathlib.Core.Bool.{Bool, false, ◌&&◌}
 use mathlib.Core.List.{List}
 use mathlib.Core.Logic.{inl, inr}
-use mathlib.Core.Path.{◌≡◌, refl, sym, ap, ◌∙◌}
+use mathlib.Core.Path.{◌≡◌, sym, ap, ◌∙◌}
 use Prim.Native.Nat.{ℕ, ◌+◌, ◌*◌, ◌/◌, ◌%◌, ◌<◌, ◌≤◌}
 use native.Mathlib.Omega.{arith}
 use lib.Arith.{digits_div, digits_mod}
 use borrow.Author.Tests.{lt-ltb, le-ltb}
-use lib.Dec.{T, ltb}
+use lib.Dec.{ltb}
 use lib.ListN.{length, get_or, get_or-eq_default}
 use Rattle.model.specs.Limits.{most_doses, most_intervals}
-use Rattle.model.specs.Sets.{on, Doses, Nonempty}
+use Rattle.model.specs.Sets.{on, Nonempty}
 use Rattle.model.proofs.Fractions.{compare≤}
 use Rattle.model.proofs.Sets.{Alike}
 use Rattle.steps.proofs.Tests.{and_false}

@@ -65,7 +65,7 @@ pub struct Class {
     pub reserved: [u64; MOST_INTERVALS],
 }
 
-// What a candidate comes to: the class, where its needs are met, and else the next candidate.
+// What a candidate comes to: the class, where its needs are met, and else the next candidate. No Result: neither is a failure.
 #[derive(Clone, Copy)]
 enum Round {
     Found(Class),

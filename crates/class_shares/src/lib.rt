@@ -28,7 +28,7 @@ impl Sharing<'_> {
         self.needs[d] - dose_total(self.fill.shares, d)
     }
 
-    // Dose d is raised until its need is met, but for less than `least`, or no chain is left: then what was seen is dead too.
+    // Dose d is raised until its need is met, but for less than `least` (as in `from_dose`), or no chain is left: then what was seen is dead too.
     fn raise_dose(&mut self, dead: &mut [bool; MOST_MARKS], d: usize, least: u64)
         requires { (d < most_doses) × (1 ≤ least) }
         ensures reshared { Reshared self.old self.new }

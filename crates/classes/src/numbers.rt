@@ -1,4 +1,5 @@
-// A refusal in numbers, for those who get no enum: C, and the printers' texts.
+// A refusal in numbers, for those who get no enum: C, and the printers' texts. The refusals' `numbers` are no trait's: nobody takes a refusal of any
+// kind, and each says what its own map says.
 ghost use Rattle.std.specs.Prelude.{◌≡◌};
 ghost use Rattle.model.specs.Answers.{refusal};
 ghost use Rattle.classes.specs.Answer.{as_numbers, nine};

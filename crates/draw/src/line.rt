@@ -90,7 +90,7 @@ fn time_in(plan: &[u8], dose: usize) -> u32
             return s.time;
         }
     }
-    0
+    0 // not come to: a dose that can be drawn has a slot
 }
 
 impl<'a> Line<'a> {

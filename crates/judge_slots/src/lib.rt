@@ -37,7 +37,7 @@ fn between(s: Slot, from: u32, to: u32) -> bool
     moment(from, 0, s.weight) <= starts(s) && ends(s) <= moment(to, 0, s.weight)
 }
 
-// The interval in which a tick lies; the number of intervals where it lies in none.
+// The interval in which a tick lies; the number of intervals where it lies in none, as the definition has it.
 pub fn interval_of(instants: &Instants, tick: u32) -> usize
     requires { instants.now.count ≤ most_instants }
     ensures { (result ≡ interval_of instants.now.at (instants.now.count - 1) tick) × (result ≤ instants.now.count - 1) }

@@ -70,7 +70,8 @@ impl Order {
 }
 
 // What the records so far come to: F records, D records, the last F and the first 24 doses as an order, and the record
-// index of each of these doses. Rules for the doses wait until all records are there: their F may stand behind them.
+// index of each of these doses, apart from them, since the order is handed on without; `doses` counts on past 24. Rules for the doses wait until all
+// records are there: their F may stand behind them.
 #[derive(Drop)]
 struct Gathered {
     heads: usize,

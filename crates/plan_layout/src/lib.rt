@@ -18,8 +18,8 @@ use records::{Class, RECORD_SIZE, Slot};
 use steps::limits::{MOST_DOSES, MOST_INSTANTS};
 
 // What shares are laid by: how many doses, classes and intervals; the instants that bound the intervals; W and P of each class; the number of each
-// dose's class. The project uses no heap, so the arrays have room for all, and the counts stand beside them, as in the tally of classes that they come
-// from.
+// dose's class. The project uses no heap, so the arrays have room for all, and the counts stand beside them, W and P in an array each, as in the tally
+// of classes that they come from; of the instants, whose crate is not known here, the array alone.
 #[derive(Clone, Copy)]
 pub struct Tables {
     pub doses: usize,
@@ -65,7 +65,7 @@ impl Plan<'_> {
         if x == 0 {
             return;
         }
-        let c = (l.len as u64) * (l.weight as u64); // not `product`: the laws of a share speak of these two factors
+        let c = (l.len as u64) * (l.weight as u64); // as it stands: the laws of a share speak of these two factors
         let fan = a / c;
         let low = a % c;
         if low + x <= c {

@@ -28,7 +28,7 @@ impl NoStream {
     }
 }
 
-// The first F from a record on, of n records; n where none is.
+// The first F from a record on, of n records; n where none is, since the last order ends there.
 fn next_fans(stream: &[u8], from: usize, n: usize) -> usize
     requires { (n ≡ length stream.now / record_size) × (from ≤ n) }
     ensures { result ≡ from + before_next stream.now from (n - from) }
