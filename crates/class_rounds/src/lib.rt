@@ -20,9 +20,12 @@ fn lay_rooms(rooms: &mut [u64; CELLS], setting: &Setting, set: &[bool; MOST_DOSE
     requires { w ≤ most_weight }
     ensures { Rooms setting.now.active setting.now.lens set.now w rooms.new }
 {
-    for (i, room) in rooms.iter_mut().enumerate() {
-        let most = setting.lens[i % MOST_INTERVALS] * w;
-        *room = on(set[i / MOST_INTERVALS], on(setting.active[i], most));
+    for k in 0..MOST_DOSES {
+        for j in 0..MOST_INTERVALS {
+            let at = k * MOST_INTERVALS + j;
+            let most = setting.lens[j] * w;
+            rooms[at] = on(set[k], on(setting.active[at], most));
+        }
     }
 }
 

@@ -3,7 +3,8 @@ ghost use Rattle.std.specs.Prelude.{◌≡◌, ◌∷◌, [], ◌+◌, ◌*◌, 
 ghost use Rattle.lines.specs.Text.{decimal, number_text, numbers_text, rest_text, line_text, bare_text};
 ghost use Rattle.lines.specs.Adding.{Adds, Fits};
 
-// The lent buffer, and the place behind the text that stands in it.
+// The lent buffer, and the place behind the text that stands in it. That there is room is asked by each writer, which uses some of it up, and is no
+// invariant.
 #[derive(Drop)]
 pub struct Text<'a> {
     pub bytes: &'a mut [u8],

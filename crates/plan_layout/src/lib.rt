@@ -31,7 +31,7 @@ pub struct Tables {
     pub class_of: [u32; MOST_DOSES],
 }
 
-// A plan that grows in a lent buffer, and how many records it has.
+// A plan that grows in a lent buffer, and how many records it has. That there is room is asked by each writer, which uses some of it up, and is no invariant.
 #[derive(Drop)]
 pub struct Plan<'a> {
     pub bytes: &'a mut [u8],

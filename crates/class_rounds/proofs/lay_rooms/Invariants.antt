@@ -1,4 +1,4 @@
-use Prim.Native.Nat.{ℕ, ◌*◌, ◌/◌, ◌%◌, ◌<◌}
+use Prim.Native.Nat.{ℕ, ◌+◌, ◌*◌, ◌/◌, ◌%◌, ◌<◌}
 use mathlib.Core.Bool.{false}
 use mathlib.Core.Path.{◌≡◌}
 use lib.ListN.{get_or}
@@ -6,7 +6,12 @@ use Rattle.model.specs.Limits.{most_intervals}
 use Rattle.model.specs.Sets.{on}
 use Rattle.class_rounds.proofs.lay_rooms.Given as goal
 
--- every place passed has its room
-abbrev pub invariant-loop-i : goal.invariant-loop-i
-invariant-loop-i l = (k : ℕ) → k < l.i → get_or l.rooms k 0
-    ≡ on (get_or l.set (k / most_intervals) false) (on (get_or l.setting.active k false) (get_or l.setting.lens (k % most_intervals) 0 * l.w))
+-- every place of the rows passed has its room
+abbrev pub invariant-loop-k : goal.invariant-loop-k
+invariant-loop-k l = (i : ℕ) → i < l.k * most_intervals → get_or l.rooms i 0
+    ≡ on (get_or l.set (i / most_intervals) false) (on (get_or l.setting.active i false) (get_or l.setting.lens (i % most_intervals) 0 * l.w))
+
+-- and of this row so far
+abbrev pub invariant-loop-j : goal.invariant-loop-j
+invariant-loop-j l = (i : ℕ) → i < l.k * most_intervals + l.j → get_or l.rooms i 0
+    ≡ on (get_or l.set (i / most_intervals) false) (on (get_or l.setting.active i false) (get_or l.setting.lens (i % most_intervals) 0 * l.w))
