@@ -27,28 +27,25 @@ impl From<Result<plan::Planned, plan::Refusal>> for Planned {
     ghost from_gives = { λ r p. as_planned p ≡ planning.as_planned r };
 
     fn from(answer: Result<plan::Planned, plan::Refusal>) -> Planned {
-        match answer {
-            Ok(p) => Planned {
-                number: 0,
-                place: 0,
-                set: 0,
-                weight: 0,
-                time: 0,
-                classes: p.classes,
-                slots: p.slots,
-            },
-            Err(r) => {
-                let refusal = r.numbers();
-                Planned {
-                    number: refusal.number,
-                    place: refusal.place,
-                    set: refusal.set,
-                    weight: refusal.weight,
-                    time: refusal.time,
-                    classes: 0,
-                    slots: 0,
-                }
-            }
+        let (numbers, classes, slots) = match answer {
+            Ok(p) => (DONE, p.classes, p.slots),
+            Err(r) => (r.numbers(), 0, 0),
+        };
+        let Numbers {
+            number,
+            place,
+            set,
+            weight,
+            time,
+        } = numbers;
+        Planned {
+            number,
+            place,
+            set,
+            weight,
+            time,
+            classes,
+            slots,
         }
     }
 }
@@ -122,30 +119,26 @@ impl From<Result<log_beside::Laid, log_beside::Refusal>> for Laid {
     ghost from_gives = { λ r l. as_laid l ≡ laying.as_laid r };
 
     fn from(answer: Result<log_beside::Laid, log_beside::Refusal>) -> Laid {
-        match answer {
-            Ok(l) => Laid {
-                number: 0,
-                place: 0,
-                set: 0,
-                weight: 0,
-                time: 0,
-                metered: l.metered,
-                risen: l.risen,
-                unknown: l.unknown,
-            },
-            Err(e) => {
-                let a = e.numbers();
-                Laid {
-                    number: a.number,
-                    place: a.place,
-                    set: a.set,
-                    weight: a.weight,
-                    time: a.time,
-                    metered: 0,
-                    risen: 0,
-                    unknown: 0,
-                }
-            }
+        let (numbers, metered, risen, unknown) = match answer {
+            Ok(l) => (DONE, l.metered, l.risen, l.unknown),
+            Err(e) => (e.numbers(), 0, 0, 0),
+        };
+        let Numbers {
+            number,
+            place,
+            set,
+            weight,
+            time,
+        } = numbers;
+        Laid {
+            number,
+            place,
+            set,
+            weight,
+            time,
+            metered,
+            risen,
+            unknown,
         }
     }
 }
