@@ -34,6 +34,10 @@ impl Sharing<'_> {
         ensures reshared { Reshared self.old self.new }
         ensures raised { DoseRaised self.old.fill.rooms.now self.old.fill.holds.now least d (slice_index self.old.needs.now d) dead.old self.old.fill.shares.now dead.new self.new.fill.shares.now }
     {
+        // What needs less than that is not short of it: a place without a dose of the set, and a small dose in the first passes.
+        if self.needs[d] < least {
+            return;
+        }
         loop {
             let miss = self.missing(d);
             if miss < least {
