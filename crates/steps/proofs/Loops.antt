@@ -5,7 +5,7 @@ use mathlib.Core.Path.{◌≡◌, refl, ◌∙◌}
 use Prim.Native.Nat.{ℕ, ◌+◌, ◌*◌, ◌<◌, ◌≤◌}
 use native.Mathlib.Numerals.{add-one}
 use native.Mathlib.Omega.{arith}
-use lib.ListN.{length, get_or, set}
+use lib.ListN.{length, get_or, length-set, set}
 use lib.Seq.{get_or-set_same, get_or-set_other}
 use Rattle.model.specs.Sets.{sum, on, weight, Doses}
 use Rattle.steps.proofs.Tests.{alike, on_most}
@@ -59,3 +59,23 @@ stored d f l i v h all e k q =
 pub unreached : {A : Type 0} (d : A) (f : ℕ → A) (l : List A) (i : ℕ) (v : A) → ((k : ℕ) → i ≤ k → get_or l k d ≡ f k)
     → (k : ℕ) → i + 1 ≤ k → get_or (set l i v) k d ≡ f k
 unreached d f l i v all k q = get_or-set_other l i k v d (λ e. omega arith) ∙ all k (omega arith)
+
+-- an array of n places has f in the first k
+pub record DoneTo {A : Type 0} (d : A) (n : ℕ) (f : ℕ → A) (k : ℕ) (l : List A) : Type 0 where
+  pub within : k ≤ n
+  pub size : length l ≡ n
+  pub places : (m : ℕ) → m < k → get_or l m d ≡ f m
+
+module _ {A : Type 0} {d : A} {n : ℕ} {f : ℕ → A} where
+  -- at first in none
+  pub done_none : {l : List A} → length l ≡ n → DoneTo d n f 0 l
+  done_none e = record { within = omega arith; size = e; places = λ m h. absurd (omega arith) }
+
+  -- one place more
+  pub done_next : {k : ℕ} {l : List A} {v : A} → DoneTo d n f k l → k < n → v ≡ f k → DoneTo d n f (k + 1) (set l k v)
+  done_next {k} {l} {v} so h e =
+      record { within = omega arith; size = simp length-set so.size; places = stored d f l k v (omega (arith, so.size)) so.places e }
+
+  -- and in the end in all
+  pub done_all : {k : ℕ} {l : List A} → DoneTo d n f k l → n ≤ k → (m : ℕ) → m < n → get_or l m d ≡ f m
+  done_all so h m q = so.places m (omega arith)
