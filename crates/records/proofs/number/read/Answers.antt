@@ -1,8 +1,9 @@
 -- `read` meets its contract: from the last byte down, 256 times the number so far and the byte before it (Laws).
-use Prim.Native.Nat.{◌+◌, ◌-◌}
-use mathlib.Core.Path.{refl, sym}
+use Prim.Native.Nat.{ℕ, ◌+◌, ◌-◌}
+use mathlib.Core.Path.{refl, sym, ap, ◌∙◌}
 use native.Mathlib.Omega.{arith}
 use native.Mathlib.Nat.{sub_self}
+use lib.ListN.{get_or}
 use Rattle.records.proofs.Laws.{byte_more, number_none, short_enough}
 use Rattle.records.proofs.number.read.Goals as goal
 
@@ -19,4 +20,6 @@ overflow_add-n g c =
 
 pub loop-i-preserved : goal.loop-i-preserved
 loop-i-preserved g c =
-    byte_more c.args.s.now c.loop-i.n _ c.args.at c.loop-i.i g.row.N (omega arith) (omega arith) (omega arith) c.from.ensures c.loop-i.invariant.0 c.loop-i.invariant.1
+    let s = c.args.s.now in
+    let byte = c.from.ensures ∙ ap (λ (j : ℕ). get_or s j 0) (omega arith) in
+    byte_more s c.loop-i.n _ c.args.at c.loop-i.i g.row.N (omega arith) (omega arith) (omega arith) byte c.loop-i.invariant.0 c.loop-i.invariant.1
